@@ -1,0 +1,9 @@
+pub mod Facts
+pub mod Forms
+pub mod Held
+pub mod OrderLaws
+pub mod Orders
+pub mod Seen
+pub mod Sets
+pub mod Table
+pub mod Words

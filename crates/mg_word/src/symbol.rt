@@ -1,0 +1,130 @@
+//! Symbols, numbered by first entry.
+
+ghost use Rattle.std.specs.Prelude.{◌≡◌, ◌<◌, ◌-◌, ◌^◌, ◌↔◌, ◌++◌, [], ◌∷◌, length, slice_get, Contains, IfOk, OnOk, OnErr, IsNone, IsTrue, IfSome, Some};
+ghost use Rattle.mg_word.specs.Table.{symbol_of};
+
+use crate::NoMemory;
+use indexmap::IndexSet;
+use std::alloc::Global;
+use std::marker::Model;
+
+/// How a symbol was written.
+#[derive(Clone, Copy, Debug, PartialEq, Eq, Hash)]
+pub enum Kind {
+    /// A lower-case or quoted word: a predicate, a function or a constant.
+    Word,
+    /// A plain number, a constant that is known by its text.
+    Integer,
+    /// A text in double quotes, a constant.
+    Distinct,
+}
+
+#[derive(Debug, Drop, PartialEq, Eq, Hash)]
+struct Entry {
+    name: String,
+    arity: u32,
+    kind: Kind,
+}
+
+/// The symbols of a problem, all different, numbered from 0 by first entry.
+#[derive(Drop)]
+pub struct Symbols {
+    alloc: Global,
+    entries: IndexSet<Entry>,
+}
+
+impl Model for Symbols {
+    ghost use Rattle.std.specs.Prelude.{List};
+    ghost use Rattle.mg_word.specs.Table.{Symbol};
+
+    ghost Value = { List Symbol };
+
+    ghost use Rattle.mg_word.specs.Seen.{symbols_seen, IsTable};
+
+    ghost view = { symbols_seen };
+
+    ghost invariant = { IsTable };
+}
+
+impl Symbols {
+    /// The empty table.
+    pub fn new(alloc: Global) -> Result<Symbols, NoMemory>
+        ensures { IfOk result (λ table. table ≡ []) }
+    {
+        Ok(Symbols {
+            alloc,
+            entries: IndexSet::new(alloc),
+        })
+    }
+
+    /// How many symbols are held.
+    pub fn len(&self) -> u32
+        ensures { result ≡ length self.now }
+    {
+        self.entries.len() as u32
+    }
+
+    /// Whether no symbol is held.
+    pub fn is_empty(&self) -> bool
+        ensures { IsTrue result ↔ (self.now ≡ []) }
+    {
+        self.entries.len() == 0
+    }
+
+    /// The name of a symbol, as bytes 32 to 126 without quotes and escapes.
+    pub fn name(&self, id: u32) -> &str
+        requires { id < length self.now }
+        ensures { IfSome (slice_get self.now id) (λ symbol. result.now ≡ symbol.name) }
+    {
+        self.entries.as_slice()[id as usize].name.as_str()
+    }
+
+    /// The number of arguments of a symbol.
+    pub fn arity(&self, id: u32) -> u32
+        requires { id < length self.now }
+        ensures { IfSome (slice_get self.now id) (λ symbol. result ≡ symbol.arity) }
+    {
+        self.entries.as_slice()[id as usize].arity
+    }
+
+    /// The kind of a symbol.
+    pub fn kind(&self, id: u32) -> Kind
+        requires { id < length self.now }
+        ensures { IfSome (slice_get self.now id) (λ symbol. result ≡ symbol.kind) }
+    {
+        self.entries.as_slice()[id as usize].kind
+    }
+
+    /// The number of a symbol, which goes last where it is new. After an error the table is as before.
+    pub fn intern(&mut self, name: &str, arity: u32, kind: Kind) -> Result<u32, NoMemory>
+        requires { length self.old < 2 ^ 32 - 1 }
+        ensures number { IfOk result (λ id. slice_get self.new id ≡ Some (symbol_of name.now arity kind)) }
+        ensures held { OnOk result (Contains self.old (symbol_of name.now arity kind) → self.new ≡ self.old) }
+        ensures added { OnOk result (¬ Contains self.old (symbol_of name.now arity kind) → self.new ≡ self.old ++ symbol_of name.now arity kind ∷ []) }
+        ensures err { OnErr result (self.new ≡ self.old) }
+    {
+        let entry = Entry {
+            name: String::from_str(self.alloc, name)?,
+            arity,
+            kind,
+        };
+        let (id, _) = self.entries.insert_full(entry)?;
+        Ok(id as u32)
+    }
+
+    /// The number of a symbol, and `None` exactly where it is not held.
+    pub fn find(&self, name: &str, arity: u32, kind: Kind) -> Result<Option<u32>, NoMemory>
+        ensures found { IfOk result (λ id. IfSome id (λ id. slice_get self.now id ≡ Some (symbol_of name.now arity kind))) }
+        ensures none { IfOk result (λ id. IsNone id ↔ (¬ Contains self.now (symbol_of name.now arity kind))) }
+    {
+        let entry = Entry {
+            name: String::from_str(self.alloc, name)?,
+            arity,
+            kind,
+        };
+        match self.entries.get_index_of(&entry) {
+            Some(id) => Ok(Some(id as u32)),
+            None => Ok(None),
+        }
+    }
+}
