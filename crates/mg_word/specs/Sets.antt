@@ -4,9 +4,13 @@ use Rattle.std.specs.List.{list_any, list_all}
 use Rattle.std.specs.declared.cmp.Ordering.{Ordering}
 use Rattle.std.specs.declared.cmp.Ordering.TheVariants.{Less, Equal, Greater}
 use Rattle.std.specs.Ordering.{eq_by_cmp, is_lt}
-use Rattle.mg_word.specs.Orders.{lit_cmp}
+use Rattle.mg_word.specs.Orders.{word_cmp, lit_cmp}
 use Rattle.mg_word.specs.Words.{complement_of}
 use Rattle.mg_word.specs.declared.lit.Lit.{Lit}
+
+-- the two are one word
+abbrev pub same_word : List ℕ → List ℕ → Bool
+same_word a b = eq_by_cmp word_cmp a b
 
 -- the two are one literal
 abbrev pub same_lit : Lit → Lit → Bool

@@ -4,6 +4,7 @@
 mod clause;
 mod form;
 mod input;
+mod instances;
 mod item;
 mod items;
 mod lit;
@@ -19,6 +20,7 @@ mod word;
 pub use clause::{Clause, ClauseLit, Name, Place};
 pub use form::{Form, Inst};
 pub use input::Input;
+pub use instances::{inst_of, instance, instance_of_lit, instances_of_lits};
 pub use item::Item;
 pub use items::Items;
 pub use lit::{Lit, PatLit, complement, is_complement};
