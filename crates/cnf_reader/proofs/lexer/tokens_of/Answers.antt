@@ -1,0 +1,31 @@
+use Rattle.std.proofs.Common.{arith, length-drop, ◌∙◌, sym}
+use Rattle.std.proofs.Common.{◌≡◌, length}
+use Rattle.cnf_reader.specs.Tokens.{text_of}
+use Rattle.cnf_reader.proofs.Fronts.{gap_step, stop_step, end_step, pass_token, token_within}
+use Rattle.cnf_reader.proofs.lexer.tokens_of.Goals as goal
+
+pub loop-rest-preserved-then-is_gap : goal.loop-rest-preserved-then-is_gap
+loop-rest-preserved-then-is_gap c =
+    rw c.skip-rest.ensures
+    (gap_step _ c.loop-rest.rest.now _ c.in-len1-up.len_at_least (sym c.is_gap.ensures ∙ c.if-is_gap.true) c.loop-rest.invariant)
+
+pub returns-in_default-2 : goal.returns-in_default-2
+returns-in_default-2 c =
+    let at = rw c.in_default-2.is at c.in_ok-token.ensures in
+    stop_step _ c.loop-rest.rest.now _ c.in-len1-up.len_at_least (sym c.is_gap.ensures ∙ c.if-is_gap.false) at c.loop-rest.invariant
+
+pub loop-rest-smaller : goal.loop-rest-smaller
+loop-rest-smaller c =
+    let found = rw c.in-Some.is at c.in_ok-token.ensures in
+    let within = token_within c.loop-rest.rest.now c.in-Some.token found.0 in
+    let count : c.in-Some.count ≡ length (text_of c.in-Some.token) = found.1 in
+    rw c.skip-rest-in-len1-up.ensures (omega (arith, length-drop c.in-Some.count c.loop-rest.rest.now, within.0, within.1, count))
+
+pub loop-rest-preserved : goal.loop-rest-preserved
+loop-rest-preserved c =
+    let found = rw c.in-Some.is at c.in_ok-token.ensures in
+    rw (c.skip-rest-in-len1-up.ensures, found.1, c.in_ok-push.ensures.items)
+    (pass_token _ c.in-Some.token c.loop-rest.rest.now _ found.0 c.loop-rest.invariant)
+
+pub returns : goal.returns
+returns c = end_step _ c.loop-rest.rest.now _ c.in_default.len_below c.loop-rest.invariant

@@ -1,0 +1,66 @@
+-- The tokens that a text spells: words, brackets, commas, dots, bars and signs of negation, with gaps between them.
+use Rattle.std.specs.Prelude.{◌≡◌, ℕ, Bool, true, false, not, ◌&&◌, ◌||◌, nat_eq, nat_le, List, [], ◌∷◌, ◌++◌, IsTrue}
+use Rattle.std.specs.List.{list_all}
+use Rattle.cnf_reader.specs.declared.token.Token.{Token}
+use Rattle.cnf_reader.specs.declared.token.Token.TheVariants.{Word, Open, Close, Comma, Dot, Bar, Not}
+
+abbrev pub is_between : ℕ → ℕ → ℕ → Bool
+is_between least most byte = nat_le least byte && nat_le byte most
+
+-- a space or a line feed
+abbrev pub is_gap_byte : ℕ → Bool
+is_gap_byte byte = nat_eq byte 32 || nat_eq byte 10
+
+abbrev pub is_lower : ℕ → Bool
+is_lower byte = is_between 97 122 byte
+
+-- a letter, a digit or an underscore
+abbrev pub is_word_byte : ℕ → Bool
+is_word_byte byte = is_lower byte || (is_between 65 90 byte || (is_between 48 57 byte || nat_eq byte 95))
+
+-- a lower-case letter, and then word bytes
+abbrev pub is_word : List ℕ → Bool
+is_word [] = false
+is_word (first ∷ bytes) = is_lower first && list_all is_word_byte bytes
+
+-- no word goes on here
+abbrev pub ends_word : List ℕ → Bool
+ends_word [] = true
+ends_word (byte ∷ bytes) = not (is_word_byte byte)
+
+-- the bytes of a token
+abbrev pub text_of : Token → List ℕ
+text_of (Word word) = word
+text_of Open = 40 ∷ []
+text_of Close = 41 ∷ []
+text_of Comma = 44 ∷ []
+text_of Dot = 46 ∷ []
+text_of Bar = 124 ∷ []
+text_of Not = 126 ∷ []
+
+-- a token that is a word has the form of one
+abbrev pub is_token : Token → Bool
+is_token (Word word) = is_word word
+is_token Open = true
+is_token Close = true
+is_token Comma = true
+is_token Dot = true
+is_token Bar = true
+is_token Not = true
+
+-- the longest token was taken: a word does not go on behind it
+abbrev pub is_whole : Token → List ℕ → Bool
+is_whole (Word word) rest = ends_word rest
+is_whole Open rest = true
+is_whole Close rest = true
+is_whole Comma rest = true
+is_whole Dot rest = true
+is_whole Bar rest = true
+is_whole Not rest = true
+
+-- the tokens are those of the text, each behind a gap that may be empty
+abbrev pub Spells : List Token → List ℕ → Type 0
+Spells [] bytes = IsTrue (list_all is_gap_byte bytes)
+Spells (token ∷ tokens) bytes =
+    (gap rest : List ℕ) × IsTrue (list_all is_gap_byte gap) × IsTrue (is_token token) × (bytes ≡ gap ++ (text_of token ++ rest)) × IsTrue (is_whole token rest)
+    × Spells tokens rest

@@ -1,0 +1,108 @@
+//! The lexer: the tokens of a text, or that it has others.
+
+ghost use Rattle.std.specs.Prelude.{◌≡◌, ◌≢◌, ◌≤◌, [], IfOk, MatchOption, None, Some, length, take, drop, take_while, List};
+ghost use Rattle.cnf_reader.specs.Scanning.{mark_at, token_at};
+ghost use Rattle.cnf_reader.specs.Tokens.{Spells, is_word_byte, is_lower, is_gap_byte, text_of};
+ghost use Rattle.cnf_reader.specs.declared.token.Token.{Token};
+
+use crate::token::Token;
+use mg_word::{NoMemory, Text};
+use std::alloc::Global;
+
+fn is_lower_letter(byte: u8) -> bool
+    ensures { result ≡ is_lower byte }
+{
+    byte >= b'a' && byte <= b'z'
+}
+
+fn may_go_on(byte: u8) -> bool
+    ensures { result ≡ is_word_byte byte }
+{
+    is_lower_letter(byte)
+        || (byte >= b'A' && byte <= b'Z')
+        || (byte >= b'0' && byte <= b'9')
+        || byte == b'_'
+}
+
+fn is_gap(byte: u8) -> bool
+    ensures { result ≡ is_gap_byte byte }
+{
+    byte == b' ' || byte == b'\n'
+}
+
+// How many bytes at the front may stand in a word.
+fn word_length(bytes: &[u8]) -> usize
+    ensures { result ≡ length (take_while is_word_byte bytes.now) }
+{
+    bytes.iter().take_while(|byte| may_go_on(**byte)).count()
+}
+
+// The token of this one byte.
+fn mark_of(byte: u8) -> Option<Token>
+    ensures { result ≡ mark_at byte }
+{
+    match byte {
+        b'(' => Some(Token::Open),
+        b')' => Some(Token::Close),
+        b',' => Some(Token::Comma),
+        b'.' => Some(Token::Dot),
+        b'|' => Some(Token::Bar),
+        b'~' => Some(Token::Not),
+        _ => None,
+    }
+}
+
+// The token at the front of a text that is not empty, with the number of its bytes.
+fn token_of(alloc: Global, bytes: &[u8]) -> Result<Option<(Token, usize)>, NoMemory>
+    requires { bytes.now ≢ [] }
+    ensures { IfOk result (λ found. MatchOption found (token_at bytes.now ≡ None) (λ token. (token_at bytes.now ≡ Some token.0) × (token.1 ≡ length (text_of token.0)))) }
+{
+    let [first, ..] = bytes else { unreachable!() };
+    if is_lower_letter(*first) {
+        let count = word_length(bytes);
+        let word = Text::new(Vec::from_slice(alloc, front(bytes, count))?);
+        return Ok(Some((Token::Word(word), count)));
+    }
+    match mark_of(*first) {
+        None => Ok(None),
+        Some(mark) => Ok(Some((mark, 1))),
+    }
+}
+
+// The first bytes.
+fn front(bytes: &[u8], count: usize) -> &[u8]
+    requires { count ≤ length bytes.now }
+    ensures { result.now ≡ take count bytes.now }
+{
+    &bytes[..count]
+}
+
+// All but the first bytes.
+fn skip(bytes: &[u8], count: usize) -> &[u8]
+    requires { count ≤ length bytes.now }
+    ensures { result.now ≡ drop count bytes.now }
+{
+    &bytes[count..]
+}
+
+/// The tokens of a text, or `None` where it is not made of tokens.
+pub fn tokens_of(alloc: Global, bytes: &[u8]) -> Result<Option<Vec<Token>>, NoMemory>
+    ensures { IfOk result (λ found. MatchOption found
+        ((tokens : List Token) → Spells tokens bytes.now → ⊥)
+        (λ tokens. Spells tokens.items bytes.now × ((others : List Token) → Spells others bytes.now → tokens.items ≡ others))) }
+{
+    let mut tokens = Vec::new(alloc);
+    let mut rest = bytes;
+    while let [first, ..] = rest {
+        if is_gap(*first) {
+            rest = skip(rest, 1);
+            continue;
+        }
+        let Some((token, count)) = token_of(alloc, rest)? else {
+            return Ok(None);
+        };
+        tokens.push(token)?;
+        rest = skip(rest, count);
+    }
+    Ok(Some(tokens))
+}

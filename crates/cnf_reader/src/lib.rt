@@ -1,0 +1,5 @@
+//! The reader of problems: from the bytes of a file to clauses, or to a fault.
+#![tactic(auto)]
+
+mod lexer;
+mod token;
