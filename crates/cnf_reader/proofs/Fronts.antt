@@ -2,11 +2,11 @@
 use Rattle.std.proofs.Common.{◌≡◌, ◌≢◌, ℕ, Bool, true, false, true≢false, List, [], ◌∷◌, ◌++◌, length, drop, Option, Some, None, IsTrue, refl, sym, ap, ◌∙◌, subst, append_assoc, append-nil, length-append, slice_index_or, arith, ◌≤◌, ◌<◌}
 use Rattle.std.specs.List.{list_all}
 use Rattle.std.proofs.Math.Seq.{drop-append_seam}
-use Rattle.cnf_reader.specs.Tokens.{is_gap_byte, text_of, is_token, is_whole, Spells}
+use Rattle.cnf_reader.specs.Tokens.{is_gap_byte, mark_byte, text_of, is_token, is_whole, Spells}
 use Rattle.cnf_reader.specs.Scanning.{token_at}
 use Rattle.cnf_reader.proofs.Tokens.{both, IsFound, found_spelled, spelled_found, gap_begins_none}
 use Rattle.cnf_reader.specs.declared.token.Token.{Token}
-use Rattle.cnf_reader.specs.declared.token.Token.TheVariants.{Word, Open, Close, Comma, Dot, Bar, Not}
+use Rattle.cnf_reader.specs.declared.token.Token.TheVariants.{Word, Mark as Marked}
 
 pub record IsFront (have : List Token) (rest bytes : List ℕ) : Type 0 where
   pub goes_on : (tokens : List Token) → Spells tokens rest → Spells (have ++ tokens) bytes
@@ -43,12 +43,8 @@ begins_no_gap : (token : Token) (rest : List ℕ) → is_token token ≡ true �
 begins_no_gap (Word []) rest good all = true≢false (sym good)
 begins_no_gap (Word (byte ∷ word)) rest good all =
     gap_begins_none (Word (byte ∷ word)) byte (word ++ rest) rest good (both (is_gap_byte byte) (list_all is_gap_byte (word ++ rest)) all).0 refl
-begins_no_gap Open rest good all = true≢false (sym all)
-begins_no_gap Close rest good all = true≢false (sym all)
-begins_no_gap Comma rest good all = true≢false (sym all)
-begins_no_gap Dot rest good all = true≢false (sym all)
-begins_no_gap Bar rest good all = true≢false (sym all)
-begins_no_gap Not rest good all = true≢false (sym all)
+begins_no_gap (Marked mark) rest good all =
+    gap_begins_none (Marked mark) (mark_byte mark) rest rest good (both (is_gap_byte (mark_byte mark)) (list_all is_gap_byte rest) all).0 refl
 
 some_same : (a b : Token) → Some a ≡ Some b → a ≡ b
 some_same a b same = cc
@@ -119,12 +115,7 @@ end_step have (byte ∷ rest) bytes none front = absurd (omega arith)
 token_is_some : (token : Token) → is_token token ≡ true → 1 ≤ length (text_of token)
 token_is_some (Word []) good = absurd (true≢false (sym good))
 token_is_some (Word (byte ∷ word)) good = omega arith
-token_is_some Open good = omega arith
-token_is_some Close good = omega arith
-token_is_some Comma good = omega arith
-token_is_some Dot good = omega arith
-token_is_some Bar good = omega arith
-token_is_some Not good = omega arith
+token_is_some (Marked mark) good = omega arith
 
 -- a token takes at least one byte, and no more than there are
 pub token_within : (rest : List ℕ) (token : Token) → token_at rest ≡ Some token → (1 ≤ length (text_of token)) × (length (text_of token) ≤ length rest)

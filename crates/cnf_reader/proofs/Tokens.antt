@@ -4,10 +4,13 @@ use Rattle.std.proofs.Common.{eqb-true, subst, arith, nat_eq, drop, length, ◌�
 use Rattle.std.specs.List.{list_all}
 use Rattle.std.specs.Bool.{if◌then◌else◌}
 use Rattle.std.proofs.lemmas.Bool.Decides.{nat_tests}
-use Rattle.cnf_reader.specs.Tokens.{is_gap_byte, is_lower, is_word_byte, is_word, ends_word, text_of, is_token, is_whole}
+use Rattle.cnf_reader.specs.Tokens.{is_gap_byte, is_lower, is_word_byte, is_word, ends_word, mark_byte, text_of, is_token, is_whole}
 use Rattle.cnf_reader.specs.Scanning.{mark_or, mark_at, token_at}
 use Rattle.cnf_reader.specs.declared.token.Token.{Token}
-use Rattle.cnf_reader.specs.declared.token.Token.TheVariants.{Word, Open, Close, Comma, Dot, Bar, Not}
+use Rattle.std.specs.Option.{option_map}
+use Rattle.cnf_reader.specs.declared.token.Token.TheVariants.{Word, Mark as Marked}
+use Rattle.cnf_reader.specs.declared.token.Mark.{Mark}
+use Rattle.cnf_reader.specs.declared.token.Mark.TheVariants.{Open, Close, Comma, Dot, Bar, Not}
 
 pub both : (a b : Bool) → (a && b) ≡ true → (a ≡ true) × (b ≡ true)
 both true b holds = (refl, holds)
@@ -41,19 +44,22 @@ word_found : (byte : ℕ) (word rest : List ℕ) → is_word (byte ∷ word) ≡
 word_found byte word rest good ends =
     let parts = both (is_lower byte) (list_all is_word_byte word) good in
     let all : list_all is_word_byte (byte ∷ word) ≡ true = ap (λ b. b && list_all is_word_byte word) (lower_goes_on byte parts.0) ∙ parts.1 in
-    choice (is_lower byte) (Some (Word (take_while is_word_byte (byte ∷ (word ++ rest))))) (mark_at byte) parts.0
+    choice (is_lower byte) (Some (Word (take_while is_word_byte (byte ∷ (word ++ rest))))) (option_map (λ mark. Marked mark) (mark_at byte)) parts.0
     ∙ ap (λ w. Some (Word w)) (taken is_word_byte (byte ∷ word) rest all (word_stops rest ends))
+
+mark_spelled : (mark : Mark) (rest : List ℕ) → token_at (mark_byte mark ∷ rest) ≡ Some (Marked mark)
+mark_spelled Open rest = refl
+mark_spelled Close rest = refl
+mark_spelled Comma rest = refl
+mark_spelled Dot rest = refl
+mark_spelled Bar rest = refl
+mark_spelled Not rest = refl
 
 -- what is spelled at the front is what is found there
 pub spelled_found : (token : Token) (rest : List ℕ) → is_token token ≡ true → is_whole token rest ≡ true → token_at (text_of token ++ rest) ≡ Some token
 spelled_found (Word []) rest good whole = absurd (true≢false (sym good))
 spelled_found (Word (byte ∷ word)) rest good whole = word_found byte word rest good whole
-spelled_found Open rest good whole = refl
-spelled_found Close rest good whole = refl
-spelled_found Comma rest good whole = refl
-spelled_found Dot rest good whole = refl
-spelled_found Bar rest good whole = refl
-spelled_found Not rest good whole = refl
+spelled_found (Marked mark) rest good whole = mark_spelled mark rest
 
 heads_same : (x y : ℕ) (xs ys : List ℕ) → x ∷ xs ≡ y ∷ ys → x ≡ y
 heads_same x y xs ys same = cc
@@ -61,20 +67,21 @@ heads_same x y xs ys same = cc
 lower_is_no_gap : (byte : ℕ) → is_lower byte ≡ true → is_gap_byte byte ≡ true → ⊥
 lower_is_no_gap byte lower gap = grind (arith, nat_tests)
 
-no_gap : (mark byte : ℕ) (bytes rest : List ℕ) → is_gap_byte mark ≡ false → is_gap_byte byte ≡ true → byte ∷ bytes ≡ mark ∷ rest → ⊥
-no_gap mark byte bytes rest is_none gap same = true≢false (sym gap ∙ (ap is_gap_byte (heads_same byte mark bytes rest same) ∙ is_none))
+mark_is_no_gap : (mark : Mark) → is_gap_byte (mark_byte mark) ≡ false
+mark_is_no_gap Open = refl
+mark_is_no_gap Close = refl
+mark_is_no_gap Comma = refl
+mark_is_no_gap Dot = refl
+mark_is_no_gap Bar = refl
+mark_is_no_gap Not = refl
 
 -- a byte of a gap begins no token
 pub gap_begins_none : (token : Token) (byte : ℕ) (bytes rest : List ℕ) → is_token token ≡ true → is_gap_byte byte ≡ true → byte ∷ bytes ≡ text_of token ++ rest → ⊥
 gap_begins_none (Word []) byte bytes rest good gap same = true≢false (sym good)
 gap_begins_none (Word (first ∷ word)) byte bytes rest good gap same =
     lower_is_no_gap byte (ap is_lower (heads_same byte first bytes (word ++ rest) same) ∙ (both (is_lower first) (list_all is_word_byte word) good).0) gap
-gap_begins_none Open byte bytes rest good gap same = no_gap 40 byte bytes rest refl gap same
-gap_begins_none Close byte bytes rest good gap same = no_gap 41 byte bytes rest refl gap same
-gap_begins_none Comma byte bytes rest good gap same = no_gap 44 byte bytes rest refl gap same
-gap_begins_none Dot byte bytes rest good gap same = no_gap 46 byte bytes rest refl gap same
-gap_begins_none Bar byte bytes rest good gap same = no_gap 124 byte bytes rest refl gap same
-gap_begins_none Not byte bytes rest good gap same = no_gap 126 byte bytes rest refl gap same
+gap_begins_none (Marked mark) byte bytes rest good gap same =
+    true≢false (sym gap ∙ (ap is_gap_byte (heads_same byte (mark_byte mark) bytes rest same) ∙ mark_is_no_gap mark))
 
 -- what a token is found to be, and what is left behind it
 pub record IsFound (bytes : List ℕ) (token : Token) : Type 0 where
@@ -82,39 +89,30 @@ pub record IsFound (bytes : List ℕ) (token : Token) : Type 0 where
   pub split : bytes ≡ text_of token ++ drop (length (text_of token)) bytes
   pub whole : is_whole token (drop (length (text_of token)) bytes) ≡ true
 
-mark_found : (token : Token) (mark byte : ℕ) (bytes : List ℕ) → is_token token ≡ true → text_of token ≡ mark ∷ [] → ((rest : List ℕ) → is_whole token rest ≡ true) → nat_eq byte mark ≡ true → IsFound (byte ∷ bytes) token
-mark_found token mark byte bytes good text whole same = record {
-  good = good;
-  split = subst (λ shown. byte ∷ bytes ≡ shown ++ drop (length shown) (byte ∷ bytes)) (sym text) (ap (λ first. first ∷ bytes) (eqb-true byte mark same));
-  whole = whole (drop (length (text_of token)) (byte ∷ bytes));
-}
+mark_found : (mark : Mark) (byte : ℕ) (bytes : List ℕ) → byte ≡ mark_byte mark → IsFound (byte ∷ bytes) (Marked mark)
+mark_found mark byte bytes same = record { good = refl; split = ap (λ first. first ∷ bytes) same; whole = refl }
 
-chosen : (b : Bool) (here token : Token) (other : Option Token) → (if b then Some here else other) ≡ Some token → ((b ≡ true) × (here ≡ token)) ⊎ (other ≡ Some token)
-chosen true here token other found = inl (refl, cc)
-chosen false here token other found = inr found
+chosen : (b : Bool) (here mark : Mark) (other : Option Mark) → (if b then Some here else other) ≡ Some mark → ((b ≡ true) × (here ≡ mark)) ⊎ (other ≡ Some mark)
+chosen true here mark other found = inl (refl, cc)
+chosen false here mark other found = inr found
 
 -- one mark of the chain
-mark_step : (mark : ℕ) (here token : Token) (byte : ℕ) (bytes : List ℕ) (other : Option Token) → is_token here ≡ true → text_of here ≡ mark ∷ [] → ((rest : List ℕ) → is_whole here rest ≡ true) → (other ≡ Some token → IsFound (byte ∷ bytes) token) → mark_or mark here byte other ≡ Some token → IsFound (byte ∷ bytes) token
-mark_step mark here token byte bytes other good text whole go found =
-    elim (chosen (nat_eq byte mark) here token other found) [
-      | inl (same, is) ↦ subst (λ t. IsFound (byte ∷ bytes) t) is (mark_found here mark byte bytes good text whole same)
+mark_step : (here mark : Mark) (byte : ℕ) (other : Option Mark) → (other ≡ Some mark → byte ≡ mark_byte mark) → mark_or (mark_byte here) here byte other ≡ Some mark → byte ≡ mark_byte mark
+mark_step here mark byte other go found =
+    elim (chosen (nat_eq byte (mark_byte here)) here mark other found) [
+      | inl (same, is) ↦ eqb-true byte (mark_byte here) same ∙ ap mark_byte is
       | inr rest ↦ go rest
     ]
 
 some_same : (a b : Token) → Some a ≡ Some b → a ≡ b
 some_same a b same = cc
 
-none_is_none : {P : Type 0} (token : Token) → None ≡ Some token → P
-none_is_none token same = cc
+none_is_none : {X P : Type 0} (x : X) → None ≡ Some x → P
+none_is_none x same = cc
 
-mark_exact : (token : Token) (byte : ℕ) (bytes : List ℕ) → mark_at byte ≡ Some token → IsFound (byte ∷ bytes) token
-mark_exact token byte bytes =
-    mark_step 40 Open token byte bytes _ refl refl (λ _. refl)
-    (mark_step 41 Close token byte bytes _ refl refl (λ _. refl)
-    (mark_step 44 Comma token byte bytes _ refl refl (λ _. refl)
-    (mark_step 46 Dot token byte bytes _ refl refl (λ _. refl)
-    (mark_step 124 Bar token byte bytes _ refl refl (λ _. refl)
-    (mark_step 126 Not token byte bytes _ refl refl (λ _. refl) (none_is_none token))))))
+mark_exact : (mark : Mark) (byte : ℕ) → mark_at byte ≡ Some mark → byte ≡ mark_byte mark
+mark_exact mark byte =
+    mark_step Open mark byte _ (mark_step Close mark byte _ (mark_step Comma mark byte _ (mark_step Dot mark byte _ (mark_step Bar mark byte _ (mark_step Not mark byte _ (none_is_none mark))))))
 
 -- nothing more is taken here
 ends : (ℕ → Bool) → List ℕ → Bool
@@ -157,6 +155,10 @@ pub found_spelled : (bytes : List ℕ) (token : Token) → token_at bytes ≡ So
 found_spelled [] token found = none_is_none token found
 found_spelled (byte ∷ bytes) token found = by (is_lower byte) refl found
   where
-    by : (b : Bool) → is_lower byte ≡ b → (if b then Some (Word (take_while is_word_byte (byte ∷ bytes))) else mark_at byte) ≡ Some token → IsFound (byte ∷ bytes) token
+    marked : (found : Option Mark) → mark_at byte ≡ found → option_map (λ mark. Marked mark) found ≡ Some token → IsFound (byte ∷ bytes) token
+    marked None at is = none_is_none token is
+    marked (Some mark) at is = subst (λ t. IsFound (byte ∷ bytes) t) (some_same _ _ is) (mark_found mark byte bytes (mark_exact mark byte at))
+
+    by : (b : Bool) → is_lower byte ≡ b → (if b then Some (Word (take_while is_word_byte (byte ∷ bytes))) else option_map (λ mark. Marked mark) (mark_at byte)) ≡ Some token → IsFound (byte ∷ bytes) token
     by true lower is = subst (λ t. IsFound (byte ∷ bytes) t) (some_same _ _ is) (word_exact byte bytes lower)
-    by false other is = mark_exact token byte bytes is
+    by false other is = marked (mark_at byte) refl is

@@ -1,2 +1,4 @@
+pub mod Grammar
 pub mod Scanning
+pub mod Steps
 pub mod Tokens

@@ -2,7 +2,9 @@
 use Rattle.std.specs.Prelude.{◌≡◌, ℕ, Bool, true, false, not, ◌&&◌, ◌||◌, nat_eq, nat_le, List, [], ◌∷◌, ◌++◌, IsTrue}
 use Rattle.std.specs.List.{list_all}
 use Rattle.cnf_reader.specs.declared.token.Token.{Token}
-use Rattle.cnf_reader.specs.declared.token.Token.TheVariants.{Word, Open, Close, Comma, Dot, Bar, Not}
+use Rattle.cnf_reader.specs.declared.token.Token.TheVariants.{Word, Mark as Marked}
+use Rattle.cnf_reader.specs.declared.token.Mark.{Mark}
+use Rattle.cnf_reader.specs.declared.token.Mark.TheVariants.{Open, Close, Comma, Dot, Bar, Not}
 
 abbrev pub is_between : ℕ → ℕ → ℕ → Bool
 is_between least most byte = nat_le least byte && nat_le byte most
@@ -28,35 +30,28 @@ abbrev pub ends_word : List ℕ → Bool
 ends_word [] = true
 ends_word (byte ∷ bytes) = not (is_word_byte byte)
 
+abbrev pub mark_byte : Mark → ℕ
+mark_byte Open = 40
+mark_byte Close = 41
+mark_byte Comma = 44
+mark_byte Dot = 46
+mark_byte Bar = 124
+mark_byte Not = 126
+
 -- the bytes of a token
 abbrev pub text_of : Token → List ℕ
 text_of (Word word) = word
-text_of Open = 40 ∷ []
-text_of Close = 41 ∷ []
-text_of Comma = 44 ∷ []
-text_of Dot = 46 ∷ []
-text_of Bar = 124 ∷ []
-text_of Not = 126 ∷ []
+text_of (Marked mark) = mark_byte mark ∷ []
 
 -- a token that is a word has the form of one
 abbrev pub is_token : Token → Bool
 is_token (Word word) = is_word word
-is_token Open = true
-is_token Close = true
-is_token Comma = true
-is_token Dot = true
-is_token Bar = true
-is_token Not = true
+is_token (Marked mark) = true
 
 -- the longest token was taken: a word does not go on behind it
 abbrev pub is_whole : Token → List ℕ → Bool
 is_whole (Word word) rest = ends_word rest
-is_whole Open rest = true
-is_whole Close rest = true
-is_whole Comma rest = true
-is_whole Dot rest = true
-is_whole Bar rest = true
-is_whole Not rest = true
+is_whole (Marked mark) rest = true
 
 -- the tokens are those of the text, each behind a gap that may be empty
 abbrev pub Spells : List Token → List ℕ → Type 0

@@ -5,7 +5,7 @@ ghost use Rattle.cnf_reader.specs.Scanning.{mark_at, token_at};
 ghost use Rattle.cnf_reader.specs.Tokens.{Spells, is_word_byte, is_lower, is_gap_byte, text_of};
 ghost use Rattle.cnf_reader.specs.declared.token.Token.{Token};
 
-use crate::token::Token;
+use crate::token::{Mark, Token};
 use mg_word::{NoMemory, Text};
 use std::alloc::Global;
 
@@ -37,17 +37,17 @@ fn word_length(bytes: &[u8]) -> usize
     bytes.iter().take_while(|byte| may_go_on(**byte)).count()
 }
 
-// The token of this one byte.
-fn mark_of(byte: u8) -> Option<Token>
+// The mark of this byte.
+fn mark_of(byte: u8) -> Option<Mark>
     ensures { result ≡ mark_at byte }
 {
     match byte {
-        b'(' => Some(Token::Open),
-        b')' => Some(Token::Close),
-        b',' => Some(Token::Comma),
-        b'.' => Some(Token::Dot),
-        b'|' => Some(Token::Bar),
-        b'~' => Some(Token::Not),
+        b'(' => Some(Mark::Open),
+        b')' => Some(Mark::Close),
+        b',' => Some(Mark::Comma),
+        b'.' => Some(Mark::Dot),
+        b'|' => Some(Mark::Bar),
+        b'~' => Some(Mark::Not),
         _ => None,
     }
 }
@@ -65,7 +65,7 @@ fn token_of(alloc: Global, bytes: &[u8]) -> Result<Option<(Token, usize)>, NoMem
     }
     match mark_of(*first) {
         None => Ok(None),
-        Some(mark) => Ok(Some((mark, 1))),
+        Some(mark) => Ok(Some((Token::Mark(mark), 1))),
     }
 }
 

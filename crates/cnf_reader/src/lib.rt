@@ -2,4 +2,6 @@
 #![tactic(auto)]
 
 mod lexer;
+mod parser;
+mod statement;
 mod token;
