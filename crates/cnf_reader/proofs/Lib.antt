@@ -1,3 +1,4 @@
 pub mod Fronts
 pub mod Parsing
+pub mod Reaching
 pub mod Tokens

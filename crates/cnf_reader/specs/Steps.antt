@@ -60,3 +60,11 @@ step_in place statements (Marked mark) = parser_at statements (mark_step place m
 -- where the parser stands behind the token
 abbrev pub step : Parser → Token → Option Parser
 step parser token = step_in parser.place parser.statements token
+
+-- at the end of a text no statement may be under way
+abbrev pub statements_of_place : Place → List Statement → Option (List Statement)
+statements_of_place Start statements = Some statements
+statements_of_place place statements = None
+
+abbrev pub statements_at_end : Parser → Option (List Statement)
+statements_at_end parser = statements_of_place parser.place parser.statements

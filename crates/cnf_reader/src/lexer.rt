@@ -1,9 +1,8 @@
-//! The lexer: the tokens of a text, or that it has others.
+//! The lexer: the token at the front of a text.
 
-ghost use Rattle.std.specs.Prelude.{◌≡◌, ◌≢◌, ◌≤◌, [], IfOk, MatchOption, None, Some, length, take, drop, take_while, List};
+ghost use Rattle.std.specs.Prelude.{◌≡◌, ◌≢◌, ◌≤◌, [], IfOk, MatchOption, None, Some, length, take, drop, take_while};
 ghost use Rattle.cnf_reader.specs.Scanning.{mark_at, token_at};
-ghost use Rattle.cnf_reader.specs.Tokens.{Spells, is_word_byte, is_lower, is_gap_byte, text_of};
-ghost use Rattle.cnf_reader.specs.declared.token.Token.{Token};
+ghost use Rattle.cnf_reader.specs.Tokens.{is_word_byte, is_lower, is_gap_byte, text_of};
 
 use crate::token::{Mark, Token};
 use mg_word::{NoMemory, Text};
@@ -24,7 +23,8 @@ fn may_go_on(byte: u8) -> bool
         || byte == b'_'
 }
 
-fn is_gap(byte: u8) -> bool
+/// Whether the byte may stand between tokens.
+pub fn is_gap(byte: u8) -> bool
     ensures { result ≡ is_gap_byte byte }
 {
     byte == b' ' || byte == b'\n'
@@ -52,8 +52,8 @@ fn mark_of(byte: u8) -> Option<Mark>
     }
 }
 
-// The token at the front of a text that is not empty, with the number of its bytes.
-fn token_of(alloc: Global, bytes: &[u8]) -> Result<Option<(Token, usize)>, NoMemory>
+/// The token at the front of a text that is not empty, with the number of its bytes.
+pub fn token_of(alloc: Global, bytes: &[u8]) -> Result<Option<(Token, usize)>, NoMemory>
     requires { bytes.now ≢ [] }
     ensures { IfOk result (λ found. MatchOption found (token_at bytes.now ≡ None) (λ token. (token_at bytes.now ≡ Some token.0) × (token.1 ≡ length (text_of token.0)))) }
 {
@@ -77,32 +77,11 @@ fn front(bytes: &[u8], count: usize) -> &[u8]
     &bytes[..count]
 }
 
-// All but the first bytes.
-fn skip(bytes: &[u8], count: usize) -> &[u8]
+/// All but the first bytes.
+pub fn skip(bytes: &[u8], count: usize) -> &[u8]
     requires { count ≤ length bytes.now }
     ensures { result.now ≡ drop count bytes.now }
 {
     &bytes[count..]
 }
 
-/// The tokens of a text, or `None` where it is not made of tokens.
-pub fn tokens_of(alloc: Global, bytes: &[u8]) -> Result<Option<Vec<Token>>, NoMemory>
-    ensures { IfOk result (λ found. MatchOption found
-        ((tokens : List Token) → Spells tokens bytes.now → ⊥)
-        (λ tokens. Spells tokens.items bytes.now × ((others : List Token) → Spells others bytes.now → tokens.items ≡ others))) }
-{
-    let mut tokens = Vec::new(alloc);
-    let mut rest = bytes;
-    while let [first, ..] = rest {
-        if is_gap(*first) {
-            rest = skip(rest, 1);
-            continue;
-        }
-        let Some((token, count)) = token_of(alloc, rest)? else {
-            return Ok(None);
-        };
-        tokens.push(token)?;
-        rest = skip(rest, count);
-    }
-    Ok(Some(tokens))
-}

@@ -4,4 +4,5 @@
 mod lexer;
 mod parser;
 mod statement;
+mod statements;
 mod token;

@@ -1,9 +1,9 @@
 use Rattle.std.proofs.Common.{length}
-use Rattle.cnf_reader.proofs.Fronts.{IsFront}
-use Rattle.cnf_reader.proofs.lexer.tokens_of.Given as goal
+use Rattle.cnf_reader.proofs.Reaching.{IsUnderWay}
+use Rattle.cnf_reader.proofs.statements.statements_of.Given as goal
 
 abbrev pub invariant-loop-rest : goal.invariant-loop-rest
-invariant-loop-rest l = IsFront l.tokens.items l.rest l.bytes
+invariant-loop-rest l = IsUnderWay l.parser l.rest l.bytes
 
 abbrev pub decreases-loop-rest : goal.decreases-loop-rest
 decreases-loop-rest l = length l.rest
