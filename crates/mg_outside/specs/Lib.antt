@@ -1,0 +1,5 @@
+pub mod Causes
+pub mod Reading
+pub mod Putting
+pub mod FilesRule
+pub mod SinkRule

@@ -1,0 +1,212 @@
+//! Real files, whose content no clause tells.
+
+ghost use Rattle.std.specs.Prelude.{◌≡◌, ◌≤◌, ◌<◌, ◌+◌, ◌-◌, ◌^◌, None, IfOk, length};
+ghost use Rattle.mg_outside.specs.Reading.{OnDone, OnAbsent, OnTooLong, Extends};
+
+use crate::{Files, ReadAnswer};
+use std::io::{self, ErrorKind, Read};
+use std::{fs, rt};
+
+/// How many bytes are asked for in one read.
+const BUFFER_LEN: usize = 32 * 1024;
+
+/// Real files, by their paths.
+///
+/// An absence is that opening finds no such file, an overrun that more bytes were read than the
+/// limit allows. Every other error of opening or reading but want of memory is a fault, also that
+/// a part of the path is no folder, and that the path names a folder.
+#[derive(Drop)]
+pub struct StdFiles<'a, R> {
+    runtime: &'a R,
+    faults: u64,
+    absences: u64,
+    overruns: u64,
+}
+
+impl<'a, R: rt::Files + Alloc> StdFiles<'a, R> {
+    /// The files that this runtime reaches.
+    pub fn new(rt: &'a R) -> StdFiles<'a, R>
+        ensures untold { ⟦<StdFiles<'a, R> as Files>⟧.table result ≡ None }
+        ensures faults { ⟦<StdFiles<'a, R> as Files>⟧.faults result ≡ 0 }
+        ensures absences { ⟦<StdFiles<'a, R> as Files>⟧.absences result ≡ 0 }
+        ensures overruns { ⟦<StdFiles<'a, R> as Files>⟧.overruns result ≡ 0 }
+    {
+        StdFiles {
+            runtime: rt,
+            faults: 0,
+            absences: 0,
+            overruns: 0,
+        }
+    }
+}
+
+// What an error of reading answers.
+fn unread(error: &io::Error) -> ReadAnswer
+    ensures { OnTooLong result ⊥ × OnDone result ⊥ × OnAbsent result ⊥ }
+{
+    match error.kind() {
+        ErrorKind::OutOfMemory => ReadAnswer::NoMemory,
+        _ => ReadAnswer::Failed,
+    }
+}
+
+// What an error of opening answers.
+fn unopened(error: &io::Error) -> ReadAnswer
+    ensures { OnTooLong result ⊥ × OnDone result ⊥ }
+{
+    match error.kind() {
+        ErrorKind::NotFound => ReadAnswer::Absent,
+        _ => unread(error),
+    }
+}
+
+// One read, tried again while signals interrupt it.
+fn read_some<F: Read>(file: &mut F, buffer: &mut [u8]) -> io::Result<usize>
+    ensures { IfOk result (λ count. count ≤ length buffer.old) }
+{
+    for _ in 0..u64::MAX {
+        match file.read(buffer) {
+            Ok(count) => return Ok(count),
+            Err(error) if error.kind() == ErrorKind::Interrupted => {}
+            Err(error) => return Err(error),
+        }
+    }
+    Err(io::Error::from(ErrorKind::Interrupted))
+}
+
+// Appends what the file gives until its end, at most `limit` bytes.
+fn append_all<F: Read>(file: &mut F, limit: u64, into: &mut Vec<u8>) -> ReadAnswer
+    ensures extends { Extends into.old.items into.new.items }
+    ensures within { OnDone result (length into.new.items ≤ length into.old.items + limit) }
+    ensures limited { OnTooLong result (limit < 2 ^ 64 - 1) }
+{
+    let mut buffer = [0u8; BUFFER_LEN];
+    let mut left = limit;
+    loop {
+        let count = match read_some(file, &mut buffer) {
+            Ok(count) => count,
+            Err(error) => return unread(&error),
+        };
+        if count == 0 {
+            return ReadAnswer::Done;
+        }
+        if count as u64 > left {
+            return ReadAnswer::TooLong;
+        }
+        if into.extend_from_slice(&buffer[..count]).is_err() {
+            return ReadAnswer::NoMemory;
+        }
+        left -= count as u64;
+    }
+}
+
+impl<R: rt::Files + Alloc> Files for StdFiles<'_, R> {
+    ghost table = { λ _. None };
+
+    ghost faults = { λ s. s.faults };
+
+    ghost absences = { λ s. s.absences };
+
+    ghost overruns = { λ s. s.overruns };
+
+    fn read(&mut self, name: &str, limit: u64, into: &mut Vec<u8>) -> ReadAnswer {
+        let start = into.len();
+        let answer = match fs::open(self.runtime, name) {
+            Ok(mut file) => append_all(&mut file, limit, into),
+            Err(error) => unopened(&error),
+        };
+        match answer {
+            ReadAnswer::Done => return ReadAnswer::Done,
+            ReadAnswer::Absent => self.absences = self.absences.saturating_add(1),
+            ReadAnswer::TooLong => self.overruns = self.overruns.saturating_add(1),
+            ReadAnswer::Failed => self.faults = self.faults.saturating_add(1),
+            ReadAnswer::NoMemory => {}
+        }
+        into.truncate(start);
+        answer
+    }
+}
+
+#[cfg(test)]
+mod tests {
+    use super::*;
+    use std::test::Fail;
+
+    const FOLDER: &str = "mg_outside_files.tmp";
+
+    const GOOD: &str = "mg_outside_files.tmp/good.p";
+
+    #[test]
+    fn reads_real_files(rt: HostRuntime) -> Result<(), Fail> {
+        let alloc = rt.alloc();
+        let _ = fs::remove_dir_all(&rt, FOLDER);
+        fs::create_dir(&rt, FOLDER)?;
+        fs::write(&rt, GOOD, vec![in alloc; 7u8; 40_000]?)?;
+        let mut files = StdFiles::new(&rt);
+        let mut into = b"%".to_vec(alloc)?;
+        // The path, the limit, the answer and how many bytes were read so far.
+        for (path, limit, answer, read) in [
+            (GOOD, 39_999, ReadAnswer::TooLong, 1),
+            (GOOD, 40_000, ReadAnswer::Done, 40_001),
+            ("mg_outside_files.tmp/none.p", 40_000, ReadAnswer::Absent, 40_001),
+            (FOLDER, 40_000, ReadAnswer::Failed, 40_001),
+            ("mg_outside_files.tmp/good.p/in.p", 40_000, ReadAnswer::Failed, 40_001),
+            (GOOD, u64::MAX, ReadAnswer::Done, 80_001),
+        ] {
+            assert_eq!(rt; files.read(path, limit, &mut into), answer, "at {path} and {limit}");
+            assert_eq!(rt; into.len(), read, "after {path} and {limit}");
+        }
+        assert!(rt; into.iter().skip(1).all(|byte| *byte == 7));
+        fs::remove_dir_all(&rt, FOLDER)?;
+        Ok(())
+    }
+
+    // Gives a few bytes at every other call and is interrupted at the others, until nothing is left.
+    #[derive(Drop)]
+    struct Stutter {
+        left: usize,
+        fails: bool,
+        interrupted: bool,
+    }
+
+    impl Read for Stutter {
+        fn read(&mut self, buffer: &mut [u8]) -> io::Result<usize> {
+            self.interrupted = !self.interrupted;
+            if self.interrupted {
+                return Err(io::Error::from(ErrorKind::Interrupted));
+            }
+            if self.left == 0 && self.fails {
+                return Err(io::Error::from(ErrorKind::Other));
+            }
+            let count = self.left.min(3).min(buffer.len());
+            for byte in buffer[..count].iter_mut() {
+                *byte = b'x';
+            }
+            self.left -= count;
+            Ok(count)
+        }
+    }
+
+    #[test]
+    fn goes_on_after_an_interruption(rt: HostRuntime) -> Result<(), Fail> {
+        // How many bytes come, whether an error follows, the limit and the answer.
+        for (left, fails, limit, answer) in [
+            (8, false, 8, ReadAnswer::Done),
+            (8, false, 7, ReadAnswer::TooLong),
+            (8, true, 9, ReadAnswer::Failed),
+            (0, false, 0, ReadAnswer::Done),
+        ] {
+            let mut into = Vec::new(rt.alloc());
+            let mut file = Stutter {
+                left,
+                fails,
+                interrupted: false,
+            };
+            assert_eq!(rt; append_all(&mut file, limit, &mut into), answer, "at {left} and {limit}");
+            if answer == ReadAnswer::Done {
+                assert_eq!(rt; into.len(), left);
+            }
+        }
+        Ok(())
+    }
+}
