@@ -1,14 +1,16 @@
 -- The exact rule of files in memory.
-use Rattle.std.specs.Prelude.{ℕ, nat_eq, Bool, List, map, Option, if◌then◌else◌}
+use Rattle.std.specs.Prelude.{ℕ, nat_eq, Bool, List, map, if◌then◌else◌}
 use Rattle.std.specs.List.{find, list_any}
 use Rattle.std.specs.Option.{option_map}
 use Rattle.std.specs.Str.{bytes_eq}
 use Rattle.std.specs.declared.vec.Vec.{Vec}
 use Rattle.std.specs.declared.alloc.Global.{Global}
 use Rattle.mg_outside.specs.Causes.{one_more}
+use Rattle.mg_outside.specs.Counting.{no_counts, counted}
 use Rattle.mg_outside.specs.Reading.{Table, told_answer}
+use Rattle.mg_outside.specs.declared.counts.Counts.{Counts}
 use Rattle.mg_outside.specs.declared.files.ReadAnswer.{ReadAnswer}
-use Rattle.mg_outside.specs.declared.files.ReadAnswer.TheVariants.{Done, Absent, TooLong, Failed, NoMemory}
+use Rattle.mg_outside.specs.declared.files.ReadAnswer.TheVariants.{Failed}
 
 -- a file: its name and its bytes
 pub record NamedFile : Type 0 where
@@ -32,13 +34,11 @@ pub record FilesState : Type 0 where
   pub files : List NamedFile
   pub failing : List ℕ
   pub calls : ℕ
-  pub faults : ℕ
-  pub absences : ℕ
-  pub overruns : ℕ
+  pub counts : Counts
 
 -- files that were not read yet
 abbrev pub new_files : List NamedFile → List ℕ → FilesState
-new_files files failing = record { files = files; failing = failing; calls = 0; faults = 0; absences = 0; overruns = 0 }
+new_files files failing = record { files = files; failing = failing; calls = 0; counts = no_counts }
 
 -- whether the next call is one of those that fail
 abbrev pub read_fails : FilesState → Bool
@@ -48,14 +48,9 @@ read_fails state = list_any (λ call. nat_eq call (one_more state.calls)) state.
 abbrev pub read_answer : FilesState → List ℕ → ℕ → ReadAnswer
 read_answer state name limit = if read_fails state then Failed else told_answer (file_named state.files name) limit
 
--- the state with this answer counted
-abbrev pub counted : ReadAnswer → FilesState → FilesState
-counted Done state = state
-counted Absent state = record state { absences = one_more state.absences }
-counted TooLong state = record state { overruns = one_more state.overruns }
-counted Failed state = record state { faults = one_more state.faults }
-counted NoMemory state = state
-
 -- the state after the next call
 abbrev pub after_read : FilesState → List ℕ → ℕ → FilesState
-after_read state name limit = counted (read_answer state name limit) (record state { calls = one_more state.calls })
+after_read state name limit = record state {
+  calls = one_more state.calls;
+  counts = counted (read_answer state name limit) state.counts;
+}

@@ -1,5 +1,6 @@
 pub mod Causes
 pub mod Reading
 pub mod Putting
+pub mod Counting
 pub mod FilesRule
 pub mod SinkRule

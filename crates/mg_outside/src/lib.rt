@@ -1,6 +1,7 @@
 //! What a command reads from and writes to: files that are read whole, and sinks that take bytes.
 #![tactic(auto)]
 
+mod counts;
 mod files;
 mod memory_files;
 mod memory_sink;

@@ -6,6 +6,7 @@ ghost use Rattle.mg_outside.specs.Causes.{Rose};
 ghost use Rattle.mg_outside.specs.Reading.{TakesFile, IsAbsent, IsTooLong, OnDone, OnAbsent, OnTooLong, OnFailed, OnNoMemory, UnlessDone, UnlessNoMemory, UnlessStopped, told_answer};
 ghost use Rattle.mg_outside.specs.FilesRule.{named_files, file_named, new_files, read_answer, after_read};
 
+use crate::counts::Counts;
 use crate::{Files, ReadAnswer};
 use mg_word::{NoMemory, Text};
 use std::marker::Model;
@@ -17,9 +18,7 @@ pub struct MemoryFiles {
     /// The numbers of the calls that fail, from 1.
     failing: Vec<u64>,
     calls: u64,
-    faults: u64,
-    absences: u64,
-    overruns: u64,
+    counts: Counts,
 }
 
 impl Model for MemoryFiles {
@@ -27,7 +26,7 @@ impl Model for MemoryFiles {
 
     ghost Value = { FilesState };
 
-    ghost view = { λ m. record { files = named_files m.files.items; failing = m.failing.items; calls = m.calls; faults = m.faults; absences = m.absences; overruns = m.overruns } };
+    ghost view = { λ m. record { files = named_files m.files.items; failing = m.failing.items; calls = m.calls; counts = m.counts } };
 }
 
 impl MemoryFiles {
@@ -40,9 +39,7 @@ impl MemoryFiles {
             files,
             failing,
             calls: 0,
-            faults: 0,
-            absences: 0,
-            overruns: 0,
+            counts: Counts::new(),
         })
     }
 }
@@ -62,21 +59,21 @@ fn find_file<'a>(files: &'a [(Text, Vec<u8>)], name: &str) -> Option<&'a [u8]>
 impl Files for MemoryFiles {
     ghost table = { λ m. Some (file_named m.files) };
 
-    ghost faults = { λ m. m.faults };
+    ghost faults = { λ m. m.counts.faults };
 
-    ghost absences = { λ m. m.absences };
+    ghost absences = { λ m. m.counts.absences };
 
-    ghost overruns = { λ m. m.overruns };
+    ghost overruns = { λ m. m.counts.overruns };
 
     fn read(&mut self, name: &str, limit: u64, into: &mut Vec<u8>) -> ReadAnswer
         ensures same { Some (file_named self.new.files) ≡ Some (file_named self.old.files) }
-        ensures faults { self.old.faults ≤ self.new.faults }
-        ensures absences { self.old.absences ≤ self.new.absences }
-        ensures overruns { self.old.overruns ≤ self.new.overruns }
+        ensures faults { self.old.counts.faults ≤ self.new.counts.faults }
+        ensures absences { self.old.counts.absences ≤ self.new.counts.absences }
+        ensures overruns { self.old.counts.overruns ≤ self.new.counts.overruns }
         ensures done { OnDone result (TakesFile (Some (file_named self.old.files)) name.now limit into.old.items into.new.items) }
-        ensures absent { OnAbsent result (IsAbsent (Some (file_named self.old.files)) name.now self.old.absences self.new.absences) }
-        ensures too_long { OnTooLong result (IsTooLong (Some (file_named self.old.files)) name.now limit self.old.overruns self.new.overruns) }
-        ensures failed { OnFailed result (Rose self.old.faults self.new.faults) }
+        ensures absent { OnAbsent result (IsAbsent (Some (file_named self.old.files)) name.now self.old.counts.absences self.new.counts.absences) }
+        ensures too_long { OnTooLong result (IsTooLong (Some (file_named self.old.files)) name.now limit self.old.counts.overruns self.new.counts.overruns) }
+        ensures failed { OnFailed result (Rose self.old.counts.faults self.new.counts.faults) }
         ensures as_before { UnlessDone result (into.new.items ≡ into.old.items) }
         ensures exact { UnlessStopped result (IfSome (Some (file_named self.old.files)) (λ files. result ≡ told_answer (files name.now) limit)) }
 
@@ -88,15 +85,15 @@ impl Files for MemoryFiles {
     {
         self.calls = self.calls.saturating_add(1);
         if self.failing.contains(&self.calls) {
-            self.faults = self.faults.saturating_add(1);
+            self.counts.count(ReadAnswer::Failed);
             return ReadAnswer::Failed;
         }
         let Some(bytes) = find_file(&self.files, name) else {
-            self.absences = self.absences.saturating_add(1);
+            self.counts.count(ReadAnswer::Absent);
             return ReadAnswer::Absent;
         };
         if bytes.len() as u64 > limit {
-            self.overruns = self.overruns.saturating_add(1);
+            self.counts.count(ReadAnswer::TooLong);
             return ReadAnswer::TooLong;
         }
         match into.extend_from_slice(bytes) {
@@ -132,8 +129,15 @@ mod tests {
             ("empty.p", 0, ReadAnswer::Done, "%abc"),
             ("a.p", u64::MAX, ReadAnswer::Done, "%abcabc"),
         ] {
-            assert_eq!(rt; files.read(name, limit, &mut into), answer, "at {name} and {limit}");
-            assert!(rt; into.as_slice() == read.as_bytes(), "after {name} and {limit}");
+            assert_eq!(rt;
+                files.read(name, limit, &mut into),
+                answer,
+                "at {name} and {limit}"
+            );
+            assert!(rt;
+                into.as_slice() == read.as_bytes(),
+                "after {name} and {limit}"
+            );
         }
         Ok(())
     }

@@ -3,6 +3,7 @@
 ghost use Rattle.std.specs.Prelude.{◌≡◌, ◌≤◌, ◌<◌, ◌+◌, ◌-◌, ◌^◌, None, IfOk, length};
 ghost use Rattle.mg_outside.specs.Reading.{OnDone, OnAbsent, OnTooLong, Extends};
 
+use crate::counts::Counts;
 use crate::{Files, ReadAnswer};
 use std::io::{self, ErrorKind, Read};
 use std::{fs, rt};
@@ -18,9 +19,7 @@ const BUFFER_LEN: usize = 32 * 1024;
 #[derive(Drop)]
 pub struct StdFiles<'a, R> {
     runtime: &'a R,
-    faults: u64,
-    absences: u64,
-    overruns: u64,
+    counts: Counts,
 }
 
 impl<'a, R: rt::Files + Alloc> StdFiles<'a, R> {
@@ -33,9 +32,7 @@ impl<'a, R: rt::Files + Alloc> StdFiles<'a, R> {
     {
         StdFiles {
             runtime: rt,
-            faults: 0,
-            absences: 0,
-            overruns: 0,
+            counts: Counts::new(),
         }
     }
 }
@@ -103,11 +100,11 @@ fn append_all<F: Read>(file: &mut F, limit: u64, into: &mut Vec<u8>) -> ReadAnsw
 impl<R: rt::Files + Alloc> Files for StdFiles<'_, R> {
     ghost table = { λ _. None };
 
-    ghost faults = { λ s. s.faults };
+    ghost faults = { λ s. s.counts.faults };
 
-    ghost absences = { λ s. s.absences };
+    ghost absences = { λ s. s.counts.absences };
 
-    ghost overruns = { λ s. s.overruns };
+    ghost overruns = { λ s. s.counts.overruns };
 
     fn read(&mut self, name: &str, limit: u64, into: &mut Vec<u8>) -> ReadAnswer {
         let start = into.len();
@@ -115,14 +112,10 @@ impl<R: rt::Files + Alloc> Files for StdFiles<'_, R> {
             Ok(mut file) => append_all(&mut file, limit, into),
             Err(error) => unopened(&error),
         };
-        match answer {
-            ReadAnswer::Done => return ReadAnswer::Done,
-            ReadAnswer::Absent => self.absences = self.absences.saturating_add(1),
-            ReadAnswer::TooLong => self.overruns = self.overruns.saturating_add(1),
-            ReadAnswer::Failed => self.faults = self.faults.saturating_add(1),
-            ReadAnswer::NoMemory => {}
+        self.counts.count(answer);
+        if answer != ReadAnswer::Done {
+            into.truncate(start);
         }
-        into.truncate(start);
         answer
     }
 }
@@ -148,12 +141,26 @@ mod tests {
         for (path, limit, answer, read) in [
             (GOOD, 39_999, ReadAnswer::TooLong, 1),
             (GOOD, 40_000, ReadAnswer::Done, 40_001),
-            ("mg_outside_files.tmp/none.p", 40_000, ReadAnswer::Absent, 40_001),
+            (
+                "mg_outside_files.tmp/none.p",
+                40_000,
+                ReadAnswer::Absent,
+                40_001,
+            ),
             (FOLDER, 40_000, ReadAnswer::Failed, 40_001),
-            ("mg_outside_files.tmp/good.p/in.p", 40_000, ReadAnswer::Failed, 40_001),
+            (
+                "mg_outside_files.tmp/good.p/in.p",
+                40_000,
+                ReadAnswer::Failed,
+                40_001,
+            ),
             (GOOD, u64::MAX, ReadAnswer::Done, 80_001),
         ] {
-            assert_eq!(rt; files.read(path, limit, &mut into), answer, "at {path} and {limit}");
+            assert_eq!(rt;
+                files.read(path, limit, &mut into),
+                answer,
+                "at {path} and {limit}"
+            );
             assert_eq!(rt; into.len(), read, "after {path} and {limit}");
         }
         assert!(rt; into.iter().skip(1).all(|byte| *byte == 7));
@@ -202,7 +209,11 @@ mod tests {
                 fails,
                 interrupted: false,
             };
-            assert_eq!(rt; append_all(&mut file, limit, &mut into), answer, "at {left} and {limit}");
+            assert_eq!(rt;
+                append_all(&mut file, limit, &mut into),
+                answer,
+                "at {left} and {limit}"
+            );
             if answer == ReadAnswer::Done {
                 assert_eq!(rt; into.len(), left);
             }
