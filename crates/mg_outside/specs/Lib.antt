@@ -4,3 +4,4 @@ pub mod Putting
 pub mod Counting
 pub mod FilesRule
 pub mod SinkRule
+pub mod RealErrors

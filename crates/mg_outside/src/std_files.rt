@@ -1,7 +1,11 @@
 //! Real files, whose content no clause tells.
 
-ghost use Rattle.std.specs.Prelude.{◌≡◌, ◌≤◌, ◌<◌, ◌+◌, ◌-◌, ◌^◌, None, IfOk, length};
-ghost use Rattle.mg_outside.specs.Reading.{OnDone, OnAbsent, OnTooLong, Extends};
+ghost use Rattle.std.specs.Prelude.{◌≡◌, ◌≤◌, ◌<◌, ◌+◌, ◌++◌, ◌-◌, ◌^◌, None, IfSome, length};
+ghost use Rattle.std.specs.Io.{ReadsAtMost};
+ghost use Rattle.std.specs.Io.KnownBytes.{ReadConsumes};
+ghost use Rattle.std.specs.IoError.{error_kind};
+ghost use Rattle.mg_outside.specs.Reading.{TakesFile, Extends, OnDone, OnAbsent, OnTooLong, UnlessDone};
+ghost use Rattle.mg_outside.specs.RealErrors.{unread_answer, unopened_answer};
 
 use crate::counts::Counts;
 use crate::{Files, ReadAnswer};
@@ -15,7 +19,8 @@ const BUFFER_LEN: usize = 32 * 1024;
 ///
 /// An absence is that opening finds no such file, an overrun that more bytes were read than the
 /// limit allows. Every other error of opening or reading but want of memory is a fault, also that
-/// a part of the path is no folder, and that the path names a folder.
+/// a part of the path is no folder, and that the path names a folder. A read that a signal
+/// interrupts is tried again; an interrupted opening is a fault.
 #[derive(Drop)]
 pub struct StdFiles<'a, R> {
     runtime: &'a R,
@@ -39,7 +44,8 @@ impl<'a, R: rt::Files + Alloc> StdFiles<'a, R> {
 
 // What an error of reading answers.
 fn unread(error: &io::Error) -> ReadAnswer
-    ensures { OnTooLong result ⊥ × OnDone result ⊥ × OnAbsent result ⊥ }
+    ensures none { OnDone result ⊥ × OnTooLong result ⊥ × OnAbsent result ⊥ }
+    ensures value { result ≡ unread_answer (error_kind error.now) }
 {
     match error.kind() {
         ErrorKind::OutOfMemory => ReadAnswer::NoMemory,
@@ -49,7 +55,8 @@ fn unread(error: &io::Error) -> ReadAnswer
 
 // What an error of opening answers.
 fn unopened(error: &io::Error) -> ReadAnswer
-    ensures { OnTooLong result ⊥ × OnDone result ⊥ }
+    ensures none { OnDone result ⊥ × OnTooLong result ⊥ }
+    ensures value { result ≡ unopened_answer (error_kind error.now) }
 {
     match error.kind() {
         ErrorKind::NotFound => ReadAnswer::Absent,
@@ -59,9 +66,10 @@ fn unopened(error: &io::Error) -> ReadAnswer
 
 // One read, tried again while signals interrupt it.
 fn read_some<F: Read>(file: &mut F, buffer: &mut [u8]) -> io::Result<usize>
-    ensures { IfOk result (λ count. count ≤ length buffer.old) }
+    ensures bound { ReadsAtMost result buffer.new }
+    ensures bytes { ReadConsumes (F.remaining file.old) (F.remaining file.new) result buffer.new }
 {
-    for _ in 0..u64::MAX {
+    'tries: for _ in 0..u64::MAX {
         match file.read(buffer) {
             Ok(count) => return Ok(count),
             Err(error) if error.kind() == ErrorKind::Interrupted => {}
@@ -71,15 +79,18 @@ fn read_some<F: Read>(file: &mut F, buffer: &mut [u8]) -> io::Result<usize>
     Err(io::Error::from(ErrorKind::Interrupted))
 }
 
-// Appends what the file gives until its end, at most `limit` bytes.
+// Appends what the reader gives until its end, where that is at most `limit` bytes.
 fn append_all<F: Read>(file: &mut F, limit: u64, into: &mut Vec<u8>) -> ReadAnswer
     ensures extends { Extends into.old.items into.new.items }
     ensures within { OnDone result (length into.new.items ≤ length into.old.items + limit) }
     ensures limited { OnTooLong result (limit < 2 ^ 64 - 1) }
+    ensures whole { OnDone result (IfSome (F.remaining file.old) (λ bytes. into.new.items ≡ into.old.items ++ bytes)) }
+    ensures longer { OnTooLong result (IfSome (F.remaining file.old) (λ bytes. limit < length bytes)) }
+    ensures present { OnAbsent result ⊥ }
 {
     let mut buffer = [0u8; BUFFER_LEN];
     let mut left = limit;
-    loop {
+    'reads: loop {
         let count = match read_some(file, &mut buffer) {
             Ok(count) => count,
             Err(error) => return unread(&error),
@@ -97,6 +108,24 @@ fn append_all<F: Read>(file: &mut F, limit: u64, into: &mut Vec<u8>) -> ReadAnsw
     }
 }
 
+// Appends the whole file of this path, or leaves `into` as it was.
+fn read_path<R: rt::Files>(runtime: &R, path: &str, limit: u64, into: &mut Vec<u8>) -> ReadAnswer
+    ensures done { OnDone result (TakesFile None path.now limit into.old.items into.new.items) }
+    ensures limited { OnTooLong result (limit < 2 ^ 64 - 1) }
+    ensures as_before { UnlessDone result (into.new.items ≡ into.old.items) }
+{
+    let start = into.len();
+    let mut file = match fs::open(runtime, path) {
+        Ok(file) => file,
+        Err(error) => return unopened(&error),
+    };
+    let answer = append_all(&mut file, limit, into);
+    if answer != ReadAnswer::Done {
+        into.truncate(start);
+    }
+    answer
+}
+
 impl<R: rt::Files + Alloc> Files for StdFiles<'_, R> {
     ghost table = { λ _. None };
 
@@ -107,15 +136,8 @@ impl<R: rt::Files + Alloc> Files for StdFiles<'_, R> {
     ghost overruns = { λ s. s.counts.overruns };
 
     fn read(&mut self, name: &str, limit: u64, into: &mut Vec<u8>) -> ReadAnswer {
-        let start = into.len();
-        let answer = match fs::open(self.runtime, name) {
-            Ok(mut file) => append_all(&mut file, limit, into),
-            Err(error) => unopened(&error),
-        };
+        let answer = read_path(self.runtime, name, limit, into);
         self.counts.count(answer);
-        if answer != ReadAnswer::Done {
-            into.truncate(start);
-        }
         answer
     }
 }

@@ -1,14 +1,15 @@
 //! A real writer, whose content no clause tells.
 
-ghost use Rattle.std.specs.Prelude.{◌≡◌, ◌≤◌, None, IfOk, length};
+ghost use Rattle.std.specs.Prelude.{◌≡◌, None, OnOk};
+ghost use Rattle.std.specs.Io.KnownBytes.{Appends};
 
 use crate::{PutAnswer, Sink};
-use std::io::{self, ErrorKind, Write};
+use std::io::{self, Write};
 
 /// A writer that each piece is written to and flushed.
 ///
 /// A fault is an error of a write or a flush, and a write that takes nothing of a piece that is
-/// not empty. A write that a signal interrupts is tried again.
+/// not empty. A write that a signal interrupts is tried again; an interrupted flush is a fault.
 #[derive(Drop)]
 pub struct StdSink<W: Write + Drop> {
     writer: W,
@@ -25,30 +26,11 @@ impl<W: Write + Drop> StdSink<W> {
     }
 }
 
-// One write, tried again while signals interrupt it.
-fn write_some<W: Write>(writer: &mut W, bytes: &[u8]) -> io::Result<usize>
-    ensures { IfOk result (λ count. count ≤ length bytes.now) }
+// Writes all bytes and flushes them. A write that a signal interrupts is tried again.
+fn write_through<W: Write>(writer: &mut W, bytes: &[u8]) -> io::Result<()>
+    ensures { OnOk result (Appends (W.contents writer.old) (W.contents writer.new) bytes.now) }
 {
-    for _ in 0..u64::MAX {
-        match writer.write(bytes) {
-            Ok(count) => return Ok(count),
-            Err(error) if error.kind() == ErrorKind::Interrupted => {}
-            Err(error) => return Err(error),
-        }
-    }
-    Err(io::Error::from(ErrorKind::Interrupted))
-}
-
-// Writes all bytes and flushes them. An empty piece is only flushed.
-fn write_through<W: Write>(writer: &mut W, bytes: &[u8]) -> io::Result<()> {
-    let mut rest = bytes;
-    while !rest.is_empty() {
-        let count = write_some(writer, rest)?;
-        if count == 0 {
-            return Err(io::Error::from(ErrorKind::WriteZero));
-        }
-        rest = &rest[count..];
-    }
+    writer.write_all(bytes)?;
     writer.flush()
 }
 
@@ -70,6 +52,7 @@ impl<W: Write + Drop> Sink for StdSink<W> {
 mod tests {
     use super::*;
     use std::fs;
+    use std::io::ErrorKind;
     use std::test::Fail;
 
     const FILE: &str = "mg_outside_sink.tmp";
