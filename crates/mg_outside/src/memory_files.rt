@@ -1,7 +1,9 @@
 //! Files in memory that fail at the calls that they are told to, for tests.
 
 ghost use Rattle.std.specs.Prelude.{◌≡◌, ◌≤◌, [], Some, IfSome, IsOkAnd};
-ghost use Rattle.std.specs.Option.{option_map};
+ghost use Rattle.std.specs.List.{find};
+ghost use Rattle.std.specs.Option.{option_map, option_copied};
+ghost use Rattle.std.specs.Str.{bytes_eq};
 ghost use Rattle.mg_outside.specs.Causes.{Rose};
 ghost use Rattle.mg_outside.specs.Reading.{TakesFile, IsAbsent, IsTooLong, OnDone, OnAbsent, OnTooLong, OnFailed, OnNoMemory, UnlessDone, UnlessNoMemory, UnlessStopped, told_answer};
 ghost use Rattle.mg_outside.specs.FilesRule.{named_files, file_named, new_files, read_answer, after_read};
@@ -44,16 +46,24 @@ impl MemoryFiles {
     }
 }
 
+// The first pair with the name.
+fn find_pair<'a>(files: &'a [(Text, Vec<u8>)], name: &str) -> Option<&'a (Text, Vec<u8>)>
+    ensures { option_copied result ≡ find (λ pair. bytes_eq pair.0 name.now) files.now }
+{
+    files
+        .iter()
+        .find(|file| file.0.as_slice() == name.as_bytes())
+}
+
 // The bytes of the first file with the name.
+#[tactic(auto, using(crate::proofs::NamedFiles::find_named))]
 fn find_file<'a>(files: &'a [(Text, Vec<u8>)], name: &str) -> Option<&'a [u8]>
     ensures { option_map (λ bytes. bytes.now) result ≡ file_named (named_files files.now) name.now }
 {
-    for file in files {
-        if file.0.as_slice() == name.as_bytes() {
-            return Some(file.1.as_slice());
-        }
+    match find_pair(files, name) {
+        None => None,
+        Some(file) => Some(file.1.as_slice()),
     }
-    None
 }
 
 impl Files for MemoryFiles {
