@@ -5,3 +5,4 @@ pub mod Counting
 pub mod FilesRule
 pub mod SinkRule
 pub mod RealErrors
+pub mod Writers

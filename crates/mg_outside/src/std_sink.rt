@@ -1,7 +1,10 @@
 //! A real writer, whose content no clause tells.
 
-ghost use Rattle.std.specs.Prelude.{◌≡◌, None, OnOk};
+ghost use Rattle.std.specs.Prelude.{◌≡◌, ◌≤◌, None, OnOk};
 ghost use Rattle.std.specs.Io.KnownBytes.{Appends};
+ghost use Rattle.mg_outside.specs.Causes.{Rose};
+ghost use Rattle.mg_outside.specs.Putting.{Gained, TookFront, OnAllPut, OnPutFailed};
+ghost use Rattle.mg_outside.specs.Writers.{writer_of, faults_of};
 
 use crate::{PutAnswer, Sink};
 use std::io::{self, Write};
@@ -11,7 +14,7 @@ use std::io::{self, Write};
 /// A fault is an error of a write or a flush, and a write that takes nothing of a piece that is
 /// not empty. A write that a signal interrupts is tried again; an interrupted flush is a fault.
 #[derive(Drop)]
-pub struct StdSink<W: Write + Drop> {
+pub struct StdSink<W> {
     writer: W,
     faults: u64,
 }
@@ -37,9 +40,18 @@ fn write_through<W: Write>(writer: &mut W, bytes: &[u8]) -> io::Result<()>
 impl<W: Write + Drop> Sink for StdSink<W> {
     ghost held = { λ _. None };
 
-    ghost faults = { λ s. s.faults };
+    ghost faults = { λ s. faults_of s };
 
-    fn put(&mut self, bytes: &[u8]) -> PutAnswer {
+    fn put(&mut self, bytes: &[u8]) -> PutAnswer
+        ensures faults { faults_of self.old ≤ faults_of self.new }
+        ensures done { OnAllPut result (Gained None None bytes.now) }
+        ensures failed { OnPutFailed result (TookFront None None bytes.now) }
+        ensures cause { OnPutFailed result (Rose (faults_of self.old) (faults_of self.new)) }
+
+        // Beyond the trait: `Done` wrote all to a writer whose bytes are known, and counts nothing.
+        ensures written { OnAllPut result (Appends (W.contents (writer_of self.old)) (W.contents (writer_of self.new)) bytes.now) }
+        ensures counted { OnAllPut result (faults_of self.new ≡ faults_of self.old) }
+    {
         if write_through(&mut self.writer, bytes).is_ok() {
             return PutAnswer::Done;
         }
