@@ -6,3 +6,4 @@ pub mod FilesRule
 pub mod SinkRule
 pub mod RealErrors
 pub mod Writers
+pub mod RealFiles

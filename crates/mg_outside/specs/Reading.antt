@@ -8,6 +8,10 @@ use Rattle.mg_outside.specs.declared.files.ReadAnswer.TheVariants.{Done, Absent,
 abbrev pub Table : Type 0
 Table = List ℕ → Option (List ℕ)
 
+-- of files that are not told
+abbrev pub untold : Option Table
+untold = None
+
 -- the whole file, of at most limit bytes, was appended; told files have these bytes under the name
 pub record TakesFile (table : Option Table) (name : List ℕ) (limit : ℕ) (old new : List ℕ) : Type 0 where
   pub bytes : List ℕ

@@ -4,7 +4,10 @@ ghost use Rattle.std.specs.Prelude.{◌≡◌, ◌≤◌, ◌<◌, ◌+◌, ◌+
 ghost use Rattle.std.specs.Io.{ReadsAtMost};
 ghost use Rattle.std.specs.Io.KnownBytes.{ReadConsumes};
 ghost use Rattle.std.specs.IoError.{error_kind};
-ghost use Rattle.mg_outside.specs.Reading.{TakesFile, Extends, OnDone, OnAbsent, OnTooLong, UnlessDone};
+ghost use Rattle.mg_outside.specs.Reading.{TakesFile, IsAbsent, IsTooLong, Extends, OnDone, OnAbsent, OnTooLong, OnFailed, UnlessDone, UnlessStopped, told_answer, untold};
+ghost use Rattle.mg_outside.specs.Causes.{Rose};
+ghost use Rattle.mg_outside.specs.Counting.{counted};
+ghost use Rattle.mg_outside.specs.RealFiles.{counts_of};
 ghost use Rattle.mg_outside.specs.RealErrors.{unread_answer, unopened_answer};
 
 use crate::counts::Counts;
@@ -110,7 +113,7 @@ fn append_all<F: Read>(file: &mut F, limit: u64, into: &mut Vec<u8>) -> ReadAnsw
 
 // Appends the whole file of this path, or leaves `into` as it was.
 fn read_path<R: rt::Files>(runtime: &R, path: &str, limit: u64, into: &mut Vec<u8>) -> ReadAnswer
-    ensures done { OnDone result (TakesFile None path.now limit into.old.items into.new.items) }
+    ensures done { OnDone result (TakesFile untold path.now limit into.old.items into.new.items) }
     ensures limited { OnTooLong result (limit < 2 ^ 64 - 1) }
     ensures as_before { UnlessDone result (into.new.items ≡ into.old.items) }
 {
@@ -127,15 +130,29 @@ fn read_path<R: rt::Files>(runtime: &R, path: &str, limit: u64, into: &mut Vec<u
 }
 
 impl<R: rt::Files + Alloc> Files for StdFiles<'_, R> {
-    ghost table = { λ _. None };
+    ghost table = { λ _. untold };
 
-    ghost faults = { λ s. s.counts.faults };
+    ghost faults = { λ s. (counts_of s).faults };
 
-    ghost absences = { λ s. s.counts.absences };
+    ghost absences = { λ s. (counts_of s).absences };
 
-    ghost overruns = { λ s. s.counts.overruns };
+    ghost overruns = { λ s. (counts_of s).overruns };
 
-    fn read(&mut self, name: &str, limit: u64, into: &mut Vec<u8>) -> ReadAnswer {
+    fn read(&mut self, name: &str, limit: u64, into: &mut Vec<u8>) -> ReadAnswer
+        ensures same { untold ≡ untold }
+        ensures faults { (counts_of self.old).faults ≤ (counts_of self.new).faults }
+        ensures absences { (counts_of self.old).absences ≤ (counts_of self.new).absences }
+        ensures overruns { (counts_of self.old).overruns ≤ (counts_of self.new).overruns }
+        ensures done { OnDone result (TakesFile untold name.now limit into.old.items into.new.items) }
+        ensures absent { OnAbsent result (IsAbsent untold name.now (counts_of self.old).absences (counts_of self.new).absences) }
+        ensures too_long { OnTooLong result (IsTooLong untold name.now limit (counts_of self.old).overruns (counts_of self.new).overruns) }
+        ensures failed { OnFailed result (Rose (counts_of self.old).faults (counts_of self.new).faults) }
+        ensures as_before { UnlessDone result (into.new.items ≡ into.old.items) }
+        ensures exact { UnlessStopped result (IfSome untold (λ files. result ≡ told_answer (files name.now) limit)) }
+
+        // Beyond the trait: each count moves with its answer alone.
+        ensures counted { counts_of self.new ≡ counted result (counts_of self.old) }
+    {
         let answer = read_path(self.runtime, name, limit, into);
         self.counts.count(answer);
         answer
