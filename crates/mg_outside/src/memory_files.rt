@@ -1,0 +1,154 @@
+//! Files in memory that fail at the calls that they are told to, for tests.
+
+ghost use Rattle.std.specs.Prelude.{◌≡◌, ◌≤◌, [], Some, IfSome, IsOkAnd};
+ghost use Rattle.std.specs.List.{find};
+ghost use Rattle.std.specs.Option.{option_map, option_copied};
+ghost use Rattle.std.specs.Str.{bytes_eq};
+ghost use Rattle.mg_outside.specs.Causes.{Rose};
+ghost use Rattle.mg_outside.specs.Reading.{TakesFile, IsAbsent, IsTooLong, OnDone, OnAbsent, OnTooLong, OnFailed, OnNoMemory, UnlessDone, UnlessNoMemory, UnlessStopped, told_answer};
+ghost use Rattle.mg_outside.specs.FilesRule.{named_files, file_named, new_files, read_answer, after_read};
+
+use crate::counts::Counts;
+use crate::{Files, ReadAnswer};
+use mg_word::{NoMemory, Text};
+use std::marker::Model;
+
+/// Files in memory. Contracts see the files by name, the calls that fail, and the counts.
+#[derive(Drop)]
+pub struct MemoryFiles {
+    files: Vec<(Text, Vec<u8>)>,
+    /// The numbers of the calls that fail, from 1.
+    failing: Vec<u64>,
+    calls: u64,
+    counts: Counts,
+}
+
+impl Model for MemoryFiles {
+    ghost use Rattle.mg_outside.specs.FilesRule.{FilesState, named_files};
+
+    ghost Value = { FilesState };
+
+    ghost view = { λ m. record { files = named_files m.files.items; failing = m.failing.items; calls = m.calls; counts = m.counts } };
+}
+
+impl MemoryFiles {
+    /// The files of this list, of which the first with a name counts. The calls with the numbers
+    /// of `failing`, counted from 1, fail. It takes no memory, and always answers the files.
+    pub fn new(files: Vec<(Text, Vec<u8>)>, failing: Vec<u64>) -> Result<MemoryFiles, NoMemory>
+        ensures { IsOkAnd result (λ made. made ≡ new_files (named_files files.items) failing.items) }
+    {
+        Ok(MemoryFiles {
+            files,
+            failing,
+            calls: 0,
+            counts: Counts::new(),
+        })
+    }
+}
+
+// The first pair with the name.
+fn find_pair<'a>(files: &'a [(Text, Vec<u8>)], name: &str) -> Option<&'a (Text, Vec<u8>)>
+    ensures { option_copied result ≡ find (λ pair. bytes_eq pair.0 name.now) files.now }
+{
+    files
+        .iter()
+        .find(|file| file.0.as_slice() == name.as_bytes())
+}
+
+// The bytes of the first file with the name.
+#[tactic(auto, using(crate::proofs::NamedFiles::find_named))]
+fn find_file<'a>(files: &'a [(Text, Vec<u8>)], name: &str) -> Option<&'a [u8]>
+    ensures { option_map (λ bytes. bytes.now) result ≡ file_named (named_files files.now) name.now }
+{
+    match find_pair(files, name) {
+        None => None,
+        Some(file) => Some(file.1.as_slice()),
+    }
+}
+
+impl Files for MemoryFiles {
+    ghost table = { λ m. Some (file_named m.files) };
+
+    ghost faults = { λ m. m.counts.faults };
+
+    ghost absences = { λ m. m.counts.absences };
+
+    ghost overruns = { λ m. m.counts.overruns };
+
+    fn read(&mut self, name: &str, limit: u64, into: &mut Vec<u8>) -> ReadAnswer
+        ensures same { Some (file_named self.new.files) ≡ Some (file_named self.old.files) }
+        ensures faults { self.old.counts.faults ≤ self.new.counts.faults }
+        ensures absences { self.old.counts.absences ≤ self.new.counts.absences }
+        ensures overruns { self.old.counts.overruns ≤ self.new.counts.overruns }
+        ensures done { OnDone result (TakesFile (Some (file_named self.old.files)) name.now limit into.old.items into.new.items) }
+        ensures absent { OnAbsent result (IsAbsent (Some (file_named self.old.files)) name.now self.old.counts.absences self.new.counts.absences) }
+        ensures too_long { OnTooLong result (IsTooLong (Some (file_named self.old.files)) name.now limit self.old.counts.overruns self.new.counts.overruns) }
+        ensures failed { OnFailed result (Rose self.old.counts.faults self.new.counts.faults) }
+        ensures as_before { UnlessDone result (into.new.items ≡ into.old.items) }
+        ensures exact { UnlessStopped result (IfSome (Some (file_named self.old.files)) (λ files. result ≡ told_answer (files name.now) limit)) }
+
+        // Beyond the trait: the answer is the rule's, but that memory may run out at the append.
+        ensures answer { UnlessNoMemory result (result ≡ read_answer self.old name.now limit) }
+        ensures memory { OnNoMemory result (read_answer self.old name.now limit ≡ ReadAnswer.Done) }
+        ensures spared { self.old.failing ≡ [] → OnFailed result ⊥ }
+        ensures after { self.new ≡ after_read self.old name.now limit }
+    {
+        self.calls = self.calls.saturating_add(1);
+        if self.failing.contains(&self.calls) {
+            self.counts.count(ReadAnswer::Failed);
+            return ReadAnswer::Failed;
+        }
+        let Some(bytes) = find_file(&self.files, name) else {
+            self.counts.count(ReadAnswer::Absent);
+            return ReadAnswer::Absent;
+        };
+        if bytes.len() as u64 > limit {
+            self.counts.count(ReadAnswer::TooLong);
+            return ReadAnswer::TooLong;
+        }
+        match into.extend_from_slice(bytes) {
+            Ok(()) => ReadAnswer::Done,
+            Err(_) => ReadAnswer::NoMemory,
+        }
+    }
+}
+
+#[cfg(test)]
+mod tests {
+    use super::*;
+    use std::test::Fail;
+
+    #[test]
+    fn answers_by_the_rule(rt: HostRuntime) -> Result<(), Fail> {
+        let alloc = rt.alloc();
+        let mut listed: Vec<(Text, Vec<u8>)> = Vec::new(alloc);
+        for (name, bytes) in [("a.p", "abc"), ("empty.p", ""), ("a.p", "second")] {
+            listed.push((
+                Text::new(name.as_bytes().to_vec(alloc)?),
+                bytes.as_bytes().to_vec(alloc)?,
+            ))?;
+        }
+        let mut files = MemoryFiles::new(listed, [3].to_vec(alloc)?)?;
+        let mut into = b"%".to_vec(alloc)?;
+        // The name, the limit, the answer and all that was read so far. The third call is listed.
+        for (name, limit, answer, read) in [
+            ("a.p", 3, ReadAnswer::Done, "%abc"),
+            ("a.p", 2, ReadAnswer::TooLong, "%abc"),
+            ("a.p", 3, ReadAnswer::Failed, "%abc"),
+            ("b.p", 3, ReadAnswer::Absent, "%abc"),
+            ("empty.p", 0, ReadAnswer::Done, "%abc"),
+            ("a.p", u64::MAX, ReadAnswer::Done, "%abcabc"),
+        ] {
+            assert_eq!(rt;
+                files.read(name, limit, &mut into),
+                answer,
+                "at {name} and {limit}"
+            );
+            assert!(rt;
+                into.as_slice() == read.as_bytes(),
+                "after {name} and {limit}"
+            );
+        }
+        Ok(())
+    }
+}

@@ -1,0 +1,149 @@
+//! A sink in memory that fails at the calls that it is told to, for tests.
+
+ghost use Rattle.std.specs.Prelude.{◌≡◌, ◌≤◌, ◌+◌, ◌++◌, vec_capacity, vec_len, Some, IfOk, length, take};
+ghost use Rattle.mg_outside.specs.Causes.{Rose};
+ghost use Rattle.mg_outside.specs.Putting.{Gained, TookFront, OnAllPut, OnPutFailed};
+ghost use Rattle.mg_outside.specs.SinkRule.{taken_at, put_answer, after_put, new_sink};
+
+use crate::{PutAnswer, Sink};
+use mg_word::NoMemory;
+use std::alloc::Global;
+use std::marker::Model;
+
+/// A put that fails: its number, counted from 1, and how many bytes of its piece it takes.
+#[derive(Clone, Copy, Debug, PartialEq, Eq)]
+pub struct FailAt {
+    pub call: u64,
+    pub taken: u64,
+}
+
+/// A sink in memory, with room for a given number of bytes.
+#[derive(Drop)]
+pub struct MemorySink {
+    bytes: Vec<u8>,
+    room: u64,
+    failing: Vec<FailAt>,
+    calls: u64,
+    faults: u64,
+}
+
+impl Model for MemorySink {
+    ghost use Rattle.std.specs.Prelude.{vec_capacity, vec_len, ◌≤◌};
+    ghost use Rattle.mg_outside.specs.SinkRule.{SinkState};
+
+    ghost Value = { SinkState };
+
+    ghost view = { λ m. record { held = m.bytes.items; room = m.room; failing = m.failing.items; calls = m.calls; faults = m.faults } };
+
+    // The room lies ready, so no put takes memory.
+    ghost invariant = { λ m. (m.room ≤ vec_capacity m.bytes) × (vec_len m.bytes ≤ m.room) };
+}
+
+impl MemorySink {
+    /// A sink with room for `room` bytes, which it takes at once. The listed puts fail; of two
+    /// entries for one put the first counts.
+    pub fn new(alloc: Global, room: u64, failing: Vec<FailAt>) -> Result<MemorySink, NoMemory>
+        ensures { IfOk result (λ made. made ≡ new_sink room failing.items) }
+    {
+        Ok(MemorySink {
+            bytes: Vec::with_capacity(alloc, room as usize)?,
+            room,
+            failing,
+            calls: 0,
+            faults: 0,
+        })
+    }
+
+    /// All bytes taken so far.
+    pub fn held(&self) -> &[u8]
+        ensures { result.now ≡ self.now.held }
+    {
+        self.bytes.as_slice()
+    }
+}
+
+// Appends the first `count` bytes, for which there is room.
+fn push_front(into: &mut Vec<u8>, bytes: &[u8], count: usize)
+    requires within { count ≤ length bytes.now }
+    requires room { vec_len into.old + count ≤ vec_capacity into.old }
+    ensures appended { into.new.items ≡ into.old.items ++ take count bytes.now }
+    ensures len { vec_len into.new ≡ vec_len into.old + count }
+    ensures room { vec_capacity into.old ≤ vec_capacity into.new }
+{
+    match into.extend_from_slice(&bytes[..count]) {
+        Ok(()) => {}
+        Err(_) => unreachable!(),
+    }
+}
+
+// How many bytes the call takes, if it is listed.
+fn find_taken(failing: &[FailAt], call: u64) -> Option<u64>
+    ensures { result ≡ taken_at failing.now call }
+{
+    failing
+        .iter()
+        .find(|fail| fail.call == call)
+        .map(|fail| fail.taken)
+}
+
+impl Sink for MemorySink {
+    ghost held = { λ m. Some m.held };
+
+    ghost faults = { λ m. m.faults };
+
+    fn put(&mut self, bytes: &[u8]) -> PutAnswer
+        ensures faults { self.old.faults ≤ self.new.faults }
+        ensures done { OnAllPut result (Gained (Some self.old.held) (Some self.new.held) bytes.now) }
+        ensures failed { OnPutFailed result (TookFront (Some self.old.held) (Some self.new.held) bytes.now) }
+        ensures cause { OnPutFailed result (Rose self.old.faults self.new.faults) }
+
+        // Beyond the trait: the answer and what is held are the rule's.
+        ensures answer { result ≡ put_answer self.old bytes.now }
+        ensures after { self.new ≡ after_put self.old bytes.now }
+    {
+        self.calls = self.calls.saturating_add(1);
+        let room_left = (self.room - self.bytes.len() as u64) as usize;
+        let listed = find_taken(&self.failing, self.calls);
+        let wanted = match listed {
+            Some(taken) => taken.min(bytes.len() as u64) as usize,
+            None => bytes.len(),
+        };
+        push_front(&mut self.bytes, bytes, wanted.min(room_left));
+        if listed.is_some() || room_left < bytes.len() {
+            self.faults = self.faults.saturating_add(1);
+            return PutAnswer::Failed;
+        }
+        PutAnswer::Done
+    }
+}
+
+#[cfg(test)]
+mod tests {
+    use super::*;
+    use std::test::Fail;
+
+    #[test]
+    fn takes_by_the_rule(rt: HostRuntime) -> Result<(), Fail> {
+        let alloc = rt.alloc();
+        let failing = [
+            FailAt { call: 2, taken: 1 },
+            FailAt { call: 2, taken: 3 },
+            FailAt { call: 4, taken: 9 },
+        ];
+        let mut sink = MemorySink::new(alloc, 10, failing.to_vec(alloc)?)?;
+        // The piece, the answer and all that is held then.
+        for (piece, answer, held) in [
+            ("abc", PutAnswer::Done, "abc"),
+            ("def", PutAnswer::Failed, "abcd"),
+            ("ef", PutAnswer::Done, "abcdef"),
+            ("gh", PutAnswer::Failed, "abcdefgh"),
+            ("ijk", PutAnswer::Failed, "abcdefghij"),
+            ("", PutAnswer::Done, "abcdefghij"),
+            ("z", PutAnswer::Failed, "abcdefghij"),
+        ] {
+            assert_eq!(rt; sink.put(piece.as_bytes()), answer, "at {piece}");
+            assert!(rt; sink.held() == held.as_bytes(), "after {piece}");
+        }
+        Ok(())
+    }
+}

@@ -1,0 +1,262 @@
+//! Real files, whose content no clause tells.
+
+ghost use Rattle.std.specs.Prelude.{◌≡◌, ◌≤◌, ◌<◌, ◌+◌, ◌++◌, ◌-◌, ◌^◌, None, IfSome, length};
+ghost use Rattle.std.specs.Io.{ReadsAtMost};
+ghost use Rattle.std.specs.Io.KnownBytes.{ReadConsumes};
+ghost use Rattle.std.specs.IoError.{error_kind};
+ghost use Rattle.mg_outside.specs.Reading.{TakesFile, IsAbsent, IsTooLong, Extends, OnDone, OnAbsent, OnTooLong, OnFailed, UnlessDone, UnlessStopped, told_answer, untold};
+ghost use Rattle.mg_outside.specs.Causes.{Rose};
+ghost use Rattle.mg_outside.specs.Counting.{counted};
+ghost use Rattle.mg_outside.specs.RealFiles.{counts_of};
+ghost use Rattle.mg_outside.specs.RealErrors.{unread_answer, unopened_answer};
+
+use crate::counts::Counts;
+use crate::{Files, ReadAnswer};
+use std::io::{self, ErrorKind, Read};
+use std::{fs, rt};
+
+/// How many bytes are asked for in one read.
+const BUFFER_LEN: usize = 32 * 1024;
+
+/// Real files, by their paths.
+///
+/// An absence is that opening finds no such file, an overrun that more bytes were read than the
+/// limit allows. Every other error of opening or reading but want of memory is a fault, also that
+/// a part of the path is no folder, and that the path names a folder. A read that a signal
+/// interrupts is tried again; an interrupted opening is a fault.
+#[derive(Drop)]
+pub struct StdFiles<'a, R> {
+    runtime: &'a R,
+    counts: Counts,
+}
+
+impl<'a, R: rt::Files + Alloc> StdFiles<'a, R> {
+    /// The files that this runtime reaches.
+    pub fn new(rt: &'a R) -> StdFiles<'a, R>
+        ensures untold { ⟦<StdFiles<'a, R> as Files>⟧.table result ≡ None }
+        ensures faults { ⟦<StdFiles<'a, R> as Files>⟧.faults result ≡ 0 }
+        ensures absences { ⟦<StdFiles<'a, R> as Files>⟧.absences result ≡ 0 }
+        ensures overruns { ⟦<StdFiles<'a, R> as Files>⟧.overruns result ≡ 0 }
+    {
+        StdFiles {
+            runtime: rt,
+            counts: Counts::new(),
+        }
+    }
+}
+
+// What an error of reading answers.
+fn unread(error: &io::Error) -> ReadAnswer
+    ensures none { OnDone result ⊥ × OnTooLong result ⊥ × OnAbsent result ⊥ }
+    ensures value { result ≡ unread_answer (error_kind error.now) }
+{
+    match error.kind() {
+        ErrorKind::OutOfMemory => ReadAnswer::NoMemory,
+        _ => ReadAnswer::Failed,
+    }
+}
+
+// What an error of opening answers.
+fn unopened(error: &io::Error) -> ReadAnswer
+    ensures none { OnDone result ⊥ × OnTooLong result ⊥ }
+    ensures value { result ≡ unopened_answer (error_kind error.now) }
+{
+    match error.kind() {
+        ErrorKind::NotFound => ReadAnswer::Absent,
+        _ => unread(error),
+    }
+}
+
+// One read, tried again while signals interrupt it.
+fn read_some<F: Read>(file: &mut F, buffer: &mut [u8]) -> io::Result<usize>
+    ensures bound { ReadsAtMost result buffer.new }
+    ensures bytes { ReadConsumes (F.remaining file.old) (F.remaining file.new) result buffer.new }
+{
+    'tries: for _ in 0..u64::MAX {
+        match file.read(buffer) {
+            Ok(count) => return Ok(count),
+            Err(error) if error.kind() == ErrorKind::Interrupted => {}
+            Err(error) => return Err(error),
+        }
+    }
+    Err(io::Error::from(ErrorKind::Interrupted))
+}
+
+// Appends what the reader gives until its end, where that is at most `limit` bytes.
+fn append_all<F: Read>(file: &mut F, limit: u64, into: &mut Vec<u8>) -> ReadAnswer
+    ensures extends { Extends into.old.items into.new.items }
+    ensures within { OnDone result (length into.new.items ≤ length into.old.items + limit) }
+    ensures limited { OnTooLong result (limit < 2 ^ 64 - 1) }
+    ensures whole { OnDone result (IfSome (F.remaining file.old) (λ bytes. into.new.items ≡ into.old.items ++ bytes)) }
+    ensures longer { OnTooLong result (IfSome (F.remaining file.old) (λ bytes. limit < length bytes)) }
+    ensures present { OnAbsent result ⊥ }
+{
+    let mut buffer = [0u8; BUFFER_LEN];
+    let mut left = limit;
+    'reads: loop {
+        let count = match read_some(file, &mut buffer) {
+            Ok(count) => count,
+            Err(error) => return unread(&error),
+        };
+        if count == 0 {
+            return ReadAnswer::Done;
+        }
+        if count as u64 > left {
+            return ReadAnswer::TooLong;
+        }
+        if into.extend_from_slice(&buffer[..count]).is_err() {
+            return ReadAnswer::NoMemory;
+        }
+        left -= count as u64;
+    }
+}
+
+// Appends the whole file of this path, or leaves `into` as it was.
+fn read_path<R: rt::Files>(runtime: &R, path: &str, limit: u64, into: &mut Vec<u8>) -> ReadAnswer
+    ensures done { OnDone result (TakesFile untold path.now limit into.old.items into.new.items) }
+    ensures limited { OnTooLong result (limit < 2 ^ 64 - 1) }
+    ensures as_before { UnlessDone result (into.new.items ≡ into.old.items) }
+{
+    let start = into.len();
+    let mut file = match fs::open(runtime, path) {
+        Ok(file) => file,
+        Err(error) => return unopened(&error),
+    };
+    let answer = append_all(&mut file, limit, into);
+    if answer != ReadAnswer::Done {
+        into.truncate(start);
+    }
+    answer
+}
+
+impl<R: rt::Files + Alloc> Files for StdFiles<'_, R> {
+    ghost table = { λ _. untold };
+
+    ghost faults = { λ s. (counts_of s).faults };
+
+    ghost absences = { λ s. (counts_of s).absences };
+
+    ghost overruns = { λ s. (counts_of s).overruns };
+
+    fn read(&mut self, name: &str, limit: u64, into: &mut Vec<u8>) -> ReadAnswer
+        ensures same { untold ≡ untold }
+        ensures faults { (counts_of self.old).faults ≤ (counts_of self.new).faults }
+        ensures absences { (counts_of self.old).absences ≤ (counts_of self.new).absences }
+        ensures overruns { (counts_of self.old).overruns ≤ (counts_of self.new).overruns }
+        ensures done { OnDone result (TakesFile untold name.now limit into.old.items into.new.items) }
+        ensures absent { OnAbsent result (IsAbsent untold name.now (counts_of self.old).absences (counts_of self.new).absences) }
+        ensures too_long { OnTooLong result (IsTooLong untold name.now limit (counts_of self.old).overruns (counts_of self.new).overruns) }
+        ensures failed { OnFailed result (Rose (counts_of self.old).faults (counts_of self.new).faults) }
+        ensures as_before { UnlessDone result (into.new.items ≡ into.old.items) }
+        ensures exact { UnlessStopped result (IfSome untold (λ files. result ≡ told_answer (files name.now) limit)) }
+
+        // Beyond the trait: each count moves with its answer alone.
+        ensures counted { counts_of self.new ≡ counted result (counts_of self.old) }
+    {
+        let answer = read_path(self.runtime, name, limit, into);
+        self.counts.count(answer);
+        answer
+    }
+}
+
+#[cfg(test)]
+mod tests {
+    use super::*;
+    use std::test::Fail;
+
+    const FOLDER: &str = "mg_outside_files.tmp";
+
+    const GOOD: &str = "mg_outside_files.tmp/good.p";
+
+    #[test]
+    fn reads_real_files(rt: HostRuntime) -> Result<(), Fail> {
+        let alloc = rt.alloc();
+        let _ = fs::remove_dir_all(&rt, FOLDER);
+        fs::create_dir(&rt, FOLDER)?;
+        fs::write(&rt, GOOD, vec![in alloc; 7u8; 40_000]?)?;
+        let mut files = StdFiles::new(&rt);
+        let mut into = b"%".to_vec(alloc)?;
+        // The path, the limit, the answer and how many bytes were read so far.
+        for (path, limit, answer, read) in [
+            (GOOD, 39_999, ReadAnswer::TooLong, 1),
+            (GOOD, 40_000, ReadAnswer::Done, 40_001),
+            (
+                "mg_outside_files.tmp/none.p",
+                40_000,
+                ReadAnswer::Absent,
+                40_001,
+            ),
+            (FOLDER, 40_000, ReadAnswer::Failed, 40_001),
+            (
+                "mg_outside_files.tmp/good.p/in.p",
+                40_000,
+                ReadAnswer::Failed,
+                40_001,
+            ),
+            (GOOD, u64::MAX, ReadAnswer::Done, 80_001),
+        ] {
+            assert_eq!(rt;
+                files.read(path, limit, &mut into),
+                answer,
+                "at {path} and {limit}"
+            );
+            assert_eq!(rt; into.len(), read, "after {path} and {limit}");
+        }
+        assert!(rt; into.iter().skip(1).all(|byte| *byte == 7));
+        fs::remove_dir_all(&rt, FOLDER)?;
+        Ok(())
+    }
+
+    // Gives a few bytes at every other call and is interrupted at the others, until nothing is left.
+    #[derive(Drop)]
+    struct Stutter {
+        left: usize,
+        fails: bool,
+        interrupted: bool,
+    }
+
+    impl Read for Stutter {
+        fn read(&mut self, buffer: &mut [u8]) -> io::Result<usize> {
+            self.interrupted = !self.interrupted;
+            if self.interrupted {
+                return Err(io::Error::from(ErrorKind::Interrupted));
+            }
+            if self.left == 0 && self.fails {
+                return Err(io::Error::from(ErrorKind::Other));
+            }
+            let count = self.left.min(3).min(buffer.len());
+            for byte in buffer[..count].iter_mut() {
+                *byte = b'x';
+            }
+            self.left -= count;
+            Ok(count)
+        }
+    }
+
+    #[test]
+    fn goes_on_after_an_interruption(rt: HostRuntime) -> Result<(), Fail> {
+        // How many bytes come, whether an error follows, the limit and the answer.
+        for (left, fails, limit, answer) in [
+            (8, false, 8, ReadAnswer::Done),
+            (8, false, 7, ReadAnswer::TooLong),
+            (8, true, 9, ReadAnswer::Failed),
+            (0, false, 0, ReadAnswer::Done),
+        ] {
+            let mut into = Vec::new(rt.alloc());
+            let mut file = Stutter {
+                left,
+                fails,
+                interrupted: false,
+            };
+            assert_eq!(rt;
+                append_all(&mut file, limit, &mut into),
+                answer,
+                "at {left} and {limit}"
+            );
+            if answer == ReadAnswer::Done {
+                assert_eq!(rt; into.len(), left);
+            }
+        }
+        Ok(())
+    }
+}
