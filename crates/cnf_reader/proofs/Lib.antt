@@ -1,4 +1,5 @@
 pub mod Fronts
 pub mod Parsing
 pub mod Reaching
+pub mod Telling
 pub mod Tokens
