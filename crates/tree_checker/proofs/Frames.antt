@@ -3,7 +3,7 @@ use Rattle.std.proofs.Common.{◌≡◌, ℕ, ◌+◌, ◌-◌, ◌<◌, ◌≤�
 use Rattle.std.proofs.lemmas.List.{append-nil, take-take, take_at, drop_at, take_all, length-append, length-take-le, reverse-append}
 use Rattle.mg_word.specs.declared.lit.Lit.{Lit}
 use Rattle.tree_checker.specs.Trees.{Branch, split_by}
-use Rattle.tree_checker.specs.Inside.{later_of, goals_of, pending, AreNested}
+use Rattle.tree_checker.specs.Inside.{goals_of, pending, AreNested}
 use Rattle.tree_checker.specs.declared.frame.Frame.{Frame}
 
 -- the last frame's branches come first

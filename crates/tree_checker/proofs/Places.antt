@@ -1,7 +1,6 @@
 -- Where a literal first stands once one is added on top or taken.
-use Rattle.std.proofs.Common.{◌≡◌, ℕ, ◌+◌, ◌<◌, Bool, true, false, true≢false, ◌||◌, cond, List, [], ◌∷◌, ◌++◌, length, Option, Some, None, refl, sym, ap, subst, ◌∙◌, arith, if◌then◌else◌}
+use Rattle.std.proofs.Common.{◌≡◌, ℕ, ◌+◌, ◌<◌, Bool, true, false, true≢false, ◌||◌, cond, List, [], ◌∷◌, ◌++◌, length, Option, Some, None, refl, sym, ap, ◌∙◌, arith, if◌then◌else◌}
 use Rattle.std.specs.Option.{option_map, is_some}
-use Rattle.mg_word.specs.Orders.{lit_cmp}
 use Rattle.mg_word.specs.OrderLaws.{lits_equal}
 use Rattle.mg_word.specs.Sets.{same_lit, holds}
 use Rattle.mg_word.specs.declared.lit.Lit.{Lit}

@@ -1,5 +1,5 @@
 -- An accepted document refutes: no list of atoms makes all its instances true.
-use Rattle.std.proofs.Common.{◌≡◌, ℕ, ◌+◌, ◌<◌, zero, suc, Bool, true, false, List, [], ◌∷◌, ◌++◌, length, take, Some, slice_get, All, Result, Ok, Err, MatchResult, OnOk, refl, sym, ap, subst, ◌∙◌, arith}
+use Rattle.std.proofs.Common.{◌≡◌, ℕ, ◌<◌, zero, suc, Bool, true, false, List, [], ◌∷◌, ◌++◌, length, take, Some, slice_get, All, Result, Ok, Err, MatchResult, OnOk, refl, sym, ap, subst, ◌∙◌, arith}
 use Rattle.std.specs.List.{list_any, list_all}
 use Rattle.std.specs.Option.{option_map_or}
 use Rattle.std.proofs.lemmas.List.{take_all}
@@ -9,7 +9,6 @@ use Rattle.mg_word.specs.Table.{Symbol}
 use Rattle.mg_word.specs.Words.{fits, lit_instances, numbered}
 use Rattle.mg_word.specs.Forms.{forms_of}
 use Rattle.mg_word.specs.Facts.{ProblemData}
-use Rattle.mg_word.specs.declared.clause.Clause.{Clause}
 use Rattle.mg_word.specs.declared.form.Form.{Form}
 use Rattle.mg_meaning.specs.Truth.{Ground, lit_true, clause_true, makes_true}
 use Rattle.mg_meaning.specs.Refuting.{IsClauseInstance, Refutes}
@@ -23,7 +22,7 @@ use Rattle.tree_checker.specs.declared.doc.Reject.{Reject}
 use Rattle.tree_checker.specs.declared.doc.TreeLine.{TreeLine}
 use Rattle.tree_checker.specs.declared.doc.TreeLine.TheVariants.{Form as FormLine, Clash, Barred, By}
 use Rattle.tree_checker.proofs.Truths.{not_true, all_append, All-front, All-back, All-at}
-use Rattle.tree_checker.proofs.FormTruth.{IsFormOf, form_of_clause}
+use Rattle.tree_checker.proofs.FormTruth.{form_of_clause}
 use Rattle.tree_checker.proofs.Soundness.{lit_false, Passes, tree_instances-append, Close-none_passes}
 
 all_fit : (table : List Symbol) (terms : List (List ℕ)) → All (IsWordOf table) terms → list_all (fits table) terms ≡ true

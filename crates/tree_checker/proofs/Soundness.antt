@@ -1,7 +1,7 @@
 -- Trees that close leave nothing that makes all their instances true.
 use Rattle.std.proofs.Common.{◌≡◌, ℕ, Bool, true, false, true≢false, not, ◌||◌, List, [], ◌∷◌, ◌++◌, Some, refl, sym, ap, subst, ◌∙◌, append_assoc}
 use Rattle.std.specs.List.{list_any, list_all}
-use Rattle.mg_word.specs.Sets.{holds, is_part}
+use Rattle.mg_word.specs.Sets.{holds}
 use Rattle.mg_word.specs.Words.{lit_instances, complement_of, numbered}
 use Rattle.mg_word.specs.declared.lit.Lit.{Lit}
 use Rattle.mg_word.specs.declared.form.Form.{Form}
@@ -47,7 +47,7 @@ module _ (atoms : List (List ℕ)) where
 
   module _ (passes_on : Ground → Bool) (forms : List Form) (lemmas : List Lemma)
       (forms_hold : (number : ℕ) (terms : List (List ℕ)) (form : Form) → numbered forms number ≡ Some form → passes_on (record { clause = form.clause; terms = terms }) ≡ true
-          → list_all (lit_true atoms) (lit_instances terms form.premises) ≡ true → list_any (lit_true atoms) (lit_instances terms form.conclusions) ≡ true)
+      → list_all (lit_true atoms) (lit_instances terms form.premises) ≡ true → list_any (lit_true atoms) (lit_instances terms form.conclusions) ≡ true)
       (earlier : (number : ℕ) (lemma : Lemma) → numbered lemmas number ≡ Some lemma → list_all (lit_true atoms) lemma.inside ≡ true → list_all lit_false lemma.outside ≡ true → ⊥) where
     -- a line that keeps the rules has no branch that passes, where none of its children's does
     pub line_closes : (branch : Branch) (line : TreeLine) → IsFine forms lemmas branch line → list_all passes_on (line_instances forms line) ≡ true

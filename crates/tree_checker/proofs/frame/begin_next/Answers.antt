@@ -1,4 +1,4 @@
-use Rattle.std.proofs.Common.{◌≡◌, ◌-◌, ◌++◌, ◌∷◌, [], take, sym, ap, refl, ◌∙◌}
+use Rattle.std.proofs.Common.{sym, refl, ◌∙◌}
 use Rattle.tree_checker.proofs.Frames.{take-front}
 use Rattle.tree_checker.proofs.frame.begin_next.Goals as goal
 

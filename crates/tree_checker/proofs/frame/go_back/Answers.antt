@@ -1,4 +1,4 @@
-use Rattle.std.proofs.Common.{◌≡◌, ◌-◌, ◌≤◌, [], length, take, refl, sym, ◌∙◌, arith, rules}
+use Rattle.std.proofs.Common.{◌-◌, take, sym, ◌∙◌, arith, rules}
 use Rattle.tree_checker.proofs.Frames.{AreNested-pop, AreNested-more, pending-push, goals_of-none, next-nested, next-pending}
 use Rattle.tree_checker.proofs.frame.go_back.Goals as goal
 

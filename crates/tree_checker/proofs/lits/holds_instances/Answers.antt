@@ -1,7 +1,7 @@
-use Rattle.std.proofs.Common.{◌≡◌, false, take, length, refl, sym, ap, ◌∙◌, get_or}
+use Rattle.std.proofs.Common.{◌≡◌, false, sym, ap, ◌∙◌, get_or}
 use Rattle.std.proofs.lemmas.List.Folds.{list_all_at, list_all-map}
-use Rattle.mg_word.specs.Sets.{holds, is_part}
-use Rattle.mg_word.specs.Words.{lit_instance, lit_instances}
+use Rattle.mg_word.specs.Sets.{holds}
+use Rattle.mg_word.specs.Words.{lit_instance}
 use Rattle.tree_checker.proofs.lits.holds_instances.Goals as goal
 
 pub returns-then-not-holds : goal.returns-then-not-holds

@@ -1,7 +1,5 @@
-use Rattle.std.proofs.Common.{◌≡◌, ◌++◌, ◌∷◌, [], ℕ, Bool, eqb, eqb-true, eq-eqb, Option, Some, None, length, refl, sym, ap, ◌∙◌, true, false, true≢false, arith}
+use Rattle.std.proofs.Common.{◌≡◌, ◌++◌, ◌∷◌, [], ℕ, eqb, eqb-true, eq-eqb, Option, Some, None, length, sym, ap, ◌∙◌, true, true≢false, arith}
 use Rattle.std.specs.Option.{option_eq}
-use Rattle.std.specs.BTreeMap.{get}
-use Rattle.mg_word.specs.Orders.{lit_cmp}
 use Rattle.tree_checker.specs.Places.{place_of}
 use Rattle.tree_checker.proofs.Places.{place_taken, place_left}
 use Rattle.tree_checker.proofs.trail.Trail.pop.Goals as goal

@@ -1,7 +1,6 @@
-use Rattle.std.proofs.Common.{◌≡◌, cond, Some, length, refl, sym, ap, ◌∙◌, true, false, arith}
+use Rattle.std.proofs.Common.{◌≡◌, length, sym, ap, ◌∙◌, true, false, arith}
 use Rattle.std.specs.Option.{is_some}
-use Rattle.mg_word.specs.Sets.{same_lit, holds}
-use Rattle.tree_checker.specs.Places.{place_of}
+use Rattle.mg_word.specs.Sets.{holds}
 use Rattle.tree_checker.proofs.Places.{place_held, place_known, place_new}
 use Rattle.tree_checker.proofs.trail.Trail.push.Goals as goal
 
