@@ -1,0 +1,12 @@
+pub mod Blocks
+pub mod FormTruth
+pub mod Frames
+pub mod LineFacts
+pub mod Lines
+pub mod Opened
+pub mod Places
+pub mod Refuting
+pub mod Shapes
+pub mod Soundness
+pub mod Truths
+pub mod Verdicts

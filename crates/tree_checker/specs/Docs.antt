@@ -1,0 +1,109 @@
+-- Documents: which are well formed, which are accepted, and which line is the first that breaks a rule.
+use Rattle.std.specs.Prelude.{◌≡◌, ℕ, ◌+◌, ◌^◌, ◌<◌, ◌≤◌, List, [], ◌∷◌, length, take, map, All, IsSome, IsTrue, Some, slice_get, ◌⊎◌}
+use Rattle.mg_word.specs.Table.{Symbol}
+use Rattle.mg_word.specs.Words.{fits, numbered}
+use Rattle.mg_word.specs.Facts.{ProblemData}
+use Rattle.mg_word.specs.declared.lit.Lit.{Lit}
+use Rattle.mg_word.specs.declared.form.Form.{Form}
+use Rattle.tree_checker.specs.Trees.{Branch, IsTree, empty_branch}
+use Rattle.tree_checker.specs.Closing.{Lemma, Closes, FirstBreak}
+use Rattle.tree_checker.specs.declared.doc.Doc.{Doc}
+use Rattle.tree_checker.specs.declared.doc.LemmaBlock.{LemmaBlock}
+use Rattle.tree_checker.specs.declared.doc.TreeLine.{TreeLine}
+use Rattle.tree_checker.specs.declared.doc.TreeLine.TheVariants.{Form as FormLine, Clash, Barred, By}
+use Rattle.tree_checker.specs.declared.doc.Reject.{Reject}
+use Rattle.tree_checker.specs.declared.doc.Reject.TheVariants.{Line, NoMemory}
+
+-- the lemma that a block states
+abbrev pub lemma_of : LemmaBlock → Lemma
+lemma_of block = record { inside = block.inside; outside = block.outside }
+
+abbrev pub lemmas_of : List LemmaBlock → List Lemma
+lemmas_of blocks = map lemma_of blocks
+
+-- what a block's tree closes: its inside held and its outside barred
+abbrev pub branch_of : LemmaBlock → Branch
+branch_of block = record { held = block.inside; barred = block.outside }
+
+-- the most symbols of a word of a document
+abbrev pub most_symbols : ℕ
+most_symbols = 65536
+
+-- the word fits the table, and is not too long
+abbrev pub IsWordOf : List Symbol → List ℕ → Type 0
+IsWordOf table word = IsTrue (fits table word) × (length word ≤ most_symbols)
+
+abbrev pub AreLitsOf : List Symbol → List Lit → Type 0
+AreLitsOf table lits = All (λ lit. IsWordOf table lit.word) lits
+
+-- the terms and literals of the line are words of the table
+abbrev pub LineFits : List Symbol → TreeLine → Type 0
+LineFits table (FormLine number terms) = All (IsWordOf table) terms
+LineFits table (Clash lit) = IsWordOf table lit.word
+LineFits table (Barred lit) = IsWordOf table lit.word
+LineFits table (By number) = Unit {0}
+
+-- the form of the line is there
+abbrev pub IsKnown : List Form → TreeLine → Type 0
+IsKnown forms (FormLine number terms) = IsSome (numbered forms number)
+IsKnown forms (Clash lit) = Unit {0}
+IsKnown forms (Barred lit) = Unit {0}
+IsKnown forms (By number) = Unit {0}
+
+-- lines of known forms, over the symbols, that are one tree
+pub record AreLines (problem : ProblemData) (lines : List TreeLine) : Type 0 where
+  pub fitting : All (LineFits problem.symbols) lines
+  pub known : All (IsKnown problem.forms) lines
+  pub tree : IsTree problem.forms lines
+
+-- the literals of a block are words of the problem, and so is its tree
+pub record IsBlock (problem : ProblemData) (block : LemmaBlock) : Type 0 where
+  pub inside : AreLitsOf problem.symbols block.inside
+  pub outside : AreLitsOf problem.symbols block.outside
+  pub lines : AreLines problem block.tree
+
+-- how many lines a text has up to the end of these blocks: the header, and for each block three lines and its tree
+abbrev pub lines_before : List LemmaBlock → ℕ
+lines_before [] = 1
+lines_before (block ∷ blocks) = lines_before blocks + (3 + length block.tree)
+
+-- the document is one of the problem: the condition of all that is said of documents
+pub record IsWellFormed (problem : ProblemData) (doc : Doc) : Type 0 where
+  pub blocks : All (IsBlock problem) doc.lemmas
+  pub root : AreLines problem doc.root
+  -- numbers of blocks fit 32 bits
+  pub few : length doc.lemmas < 2 ^ 32
+  -- and those of lines 63: all before the root's, one for the root and those of its tree
+  pub short : lines_before doc.lemmas + 1 + length doc.root < 2 ^ 63
+
+-- of the first n blocks, each one's tree closes from its own sets, with the blocks before it as lemmas
+abbrev pub BlocksClose : List Form → List LemmaBlock → ℕ → Type 0
+BlocksClose forms blocks n =
+    (j : ℕ) (block : LemmaBlock) → j < n → slice_get blocks j ≡ Some block → Closes forms (lemmas_of (take j blocks)) (branch_of block) block.tree
+
+-- each block closes, and then the root from two empty sets, with all blocks as lemmas
+pub record Accepts (problem : ProblemData) (doc : Doc) : Type 0 where
+  pub blocks : BlocksClose problem.forms doc.lemmas (length doc.lemmas)
+  pub root : Closes problem.forms (lemmas_of doc.lemmas) empty_branch doc.root
+
+-- of a tree's lines, counted from that number, the first that breaks a rule is named
+abbrev pub RejectsAt : List Form → List Lemma → Branch → List TreeLine → ℕ → Reject → Type 0
+RejectsAt forms lemmas start lines first (Line line why) = (at : ℕ) × (line ≡ first + at) × FirstBreak forms lemmas start lines at why
+RejectsAt forms lemmas start lines first NoMemory = Unit {0}
+
+-- the first broken line is in the block with this index: the tree begins three lines after the block does
+pub record InBlock (problem : ProblemData) (doc : Doc) (reject : Reject) : Type 0 where
+  pub at : ℕ
+  pub block : LemmaBlock
+  pub block_is : slice_get doc.lemmas at ≡ Some block
+  pub before : BlocksClose problem.forms doc.lemmas at
+  pub rejects : RejectsAt problem.forms (lemmas_of (take at doc.lemmas)) (branch_of block) block.tree (lines_before (take at doc.lemmas) + 4) reject
+
+-- the first broken line is in the root's tree, which begins one line after the root does
+pub record InRoot (problem : ProblemData) (doc : Doc) (reject : Reject) : Type 0 where
+  pub before : BlocksClose problem.forms doc.lemmas (length doc.lemmas)
+  pub rejects : RejectsAt problem.forms (lemmas_of doc.lemmas) empty_branch doc.root (lines_before doc.lemmas + 2) reject
+
+-- the answer names the first line that breaks a rule and the first rule that it breaks, or that memory ran out
+abbrev pub Rejects : ProblemData → Doc → Reject → Type 0
+Rejects problem doc reject = InBlock problem doc reject ⊎ InRoot problem doc reject

@@ -1,0 +1,33 @@
+//! Why a text is not a document.
+
+/// What is wrong with a line.
+#[derive(Clone, Copy, Debug, PartialEq, Eq)]
+pub enum DocKind {
+    /// The first line is not the header.
+    Header,
+    /// The line may not stand here, or is not in its one spelling.
+    Syntax,
+    /// The block's number is not the next.
+    Block,
+    /// No form has this number.
+    FormNumber,
+    /// The problem has no such symbol.
+    Unknown,
+    /// A term or literal has more than 65,536 symbols.
+    Heavy,
+    /// The literals of a set do not rise strictly.
+    Order,
+    /// The lines end before the document.
+    Early,
+    /// A line stands after the root's tree.
+    Rest,
+}
+
+/// Why a text is not a document.
+#[derive(Clone, Copy, Debug, PartialEq, Eq)]
+pub enum DocFault {
+    /// The first line with a fault, counted from 1 without the lines that begin with `%`.
+    Line { line: u64, kind: DocKind },
+    /// Memory ran out.
+    NoMemory,
+}

@@ -1,0 +1,15 @@
+//! Proof trees of refutations, and whether they close.
+#![tactic(auto)]
+
+mod check;
+mod doc;
+mod doc_fault;
+mod frame;
+mod line;
+mod lits;
+mod trail;
+mod walk;
+
+pub use check::check_doc;
+pub use doc::{Doc, LemmaBlock, Reject, TreeLine, Why};
+pub use doc_fault::{DocFault, DocKind};
