@@ -1,0 +1,7 @@
+pub mod Bytes
+pub mod Comments
+pub mod Quotes
+pub mod Numbers
+pub mod Pieces
+pub mod Spots
+pub mod Tokens
