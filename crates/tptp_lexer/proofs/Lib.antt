@@ -1,1 +1,6 @@
-
+pub mod Lengths
+pub mod Shifts
+pub mod Steps
+pub mod Within
+pub mod Places
+pub mod Lexing

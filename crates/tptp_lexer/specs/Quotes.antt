@@ -2,7 +2,7 @@
 use Rattle.std.specs.Prelude.{ℕ, suc, Bool, true, false, List, [], ◌∷◌, Option, Some, None, ◌==◌, ◌&&◌, ◌||◌, not, if◌then◌else◌}
 use Rattle.std.specs.Option.{option_map}
 use Rattle.tptp_lexer.specs.Bytes.{is_line_end, is_printable, begins}
-use Rattle.tptp_lexer.specs.declared.token.LexKind.{LexKind}
+use Rattle.tptp_lexer.specs.declared.piece.Flaw.{Flaw}
 use Rattle.tptp_lexer.specs.declared.token.LexKind.TheVariants.{BadByte, BadEscape}
 
 -- how many bytes come before the closing quote: the first that is not the second byte of an escape pair, on this line. `paired`: the byte before begins such a pair
@@ -16,11 +16,6 @@ before_quote quote paired (b ∷ bs) =
 -- the byte may follow a backslash
 abbrev pub is_escaped : ℕ → ℕ → Bool
 is_escaped quote b = b == quote || b == 92
-
--- a fault, and how many bytes come before it
-pub record Flaw : Type 0 where
-  pub kind : LexKind
-  pub before : ℕ
 
 -- the same fault, seen from a byte earlier
 abbrev pub one_later : Flaw → Flaw

@@ -1,5 +1,5 @@
 -- Lines and columns.
-use Rattle.std.specs.Prelude.{ℕ, ◌+◌, List, [], ◌∷◌, take, ◌==◌, if◌then◌else◌}
+use Rattle.std.specs.Prelude.{◌≡◌, ◌≤◌, length, ℕ, ◌+◌, List, [], ◌∷◌, take, ◌==◌, if◌then◌else◌}
 use Rattle.tptp_lexer.specs.declared.spot.Spot.{Spot}
 
 -- where a text begins
@@ -22,3 +22,8 @@ passed spot (b ∷ bs) = passed (past spot b) bs
 -- the place of the byte with this offset
 abbrev pub spot_at : List ℕ → ℕ → Spot
 spot_at bytes offset = passed first_spot (take offset bytes)
+
+-- the place is one of this text: within it, with its line and column
+pub record IsPlace (bytes : List ℕ) (spot : Spot) : Type 0 where
+  pub within : spot.offset ≤ length bytes
+  pub counted : spot ≡ spot_at bytes spot.offset

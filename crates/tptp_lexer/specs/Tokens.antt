@@ -1,8 +1,8 @@
 -- The tokens of a text, and the end or the fault behind them.
-use Rattle.std.specs.Prelude.{◌≡◌, ℕ, zero, suc, ◌+◌, ◌-◌, ◌≤◌, Bool, true, false, List, [], ◌∷◌, Option, Some, None, Result, Ok, Err, IfSome, length, take, drop}
+use Rattle.std.specs.Prelude.{◌≡◌, ℕ, zero, suc, ◌+◌, ◌-◌, ◌<◌, ◌≤◌, Bool, true, false, List, [], ◌∷◌, Option, Some, None, Result, Ok, Err, IfSome, length, take, drop}
 use Rattle.tptp_lexer.specs.Numbers.{is_plain}
 use Rattle.tptp_lexer.specs.Pieces.{piece_of}
-use Rattle.tptp_lexer.specs.Spots.{first_spot, past, passed, spot_at}
+use Rattle.tptp_lexer.specs.Spots.{first_spot, past, passed, spot_at, IsPlace}
 use Rattle.tptp_lexer.specs.declared.token.TokenKind.{TokenKind}
 use Rattle.tptp_lexer.specs.declared.token.TokenKind.TheVariants.{Number}
 use Rattle.tptp_lexer.specs.declared.token.Token.{Token}
@@ -74,12 +74,20 @@ first_of lexed = first_by lexed.tokens lexed.fault
 abbrev pub rest_of : Lexed → Lexed
 rest_of lexed = record { tokens = drop 1 lexed.tokens; fault = lexed.fault }
 
+-- the cursor at the front of any text
+abbrev pub start_cursor : Cursor
+start_cursor = record { spot = first_spot; fault = None }
+
 -- what is left of a text at a cursor
 abbrev pub left_of : List ℕ → Cursor → Lexed
 left_of bytes cursor = lexed_at bytes cursor.spot.offset
 
--- the cursor is one of this text: within it, with its line and column, and its fault stands there
+-- the cursor is one of this text, and the fault that it keeps stands there
 pub record IsAt (bytes : List ℕ) (cursor : Cursor) : Type 0 where
-  pub within : cursor.spot.offset ≤ length bytes
-  pub place : cursor.spot ≡ spot_at bytes cursor.spot.offset
+  pub placed : IsPlace bytes cursor.spot
   pub standing : (fault : LexFault) → cursor.fault ≡ Some fault → left_of bytes cursor ≡ record { tokens = []; fault = Some fault }
+
+-- the token has a text in these bytes
+pub record IsTokenIn (bytes : List ℕ) (token : Token) : Type 0 where
+  pub some : token.start < token.end
+  pub within : token.end ≤ length bytes
