@@ -2,7 +2,7 @@
 use Rattle.std.proofs.Common.{◌≡◌, ℕ, zero, suc, ◌+◌, ◌-◌, ◌≤◌, ◌<◌, Option, Some, None, List, [], ◌∷◌, length, take, drop, refl, ap, sym, subst, ◌∙◌, arith}
 use Rattle.tptp_lexer.specs.Pieces.{piece_from, piece_of}
 use Rattle.tptp_lexer.specs.Spots.{past, passed, spot_at}
-use Rattle.tptp_lexer.specs.Tokens.{Lexed, token_of, fault_at, lexed_by, lexed_from, lexed_at}
+use Rattle.tptp_lexer.specs.Tokens.{Lexed, token_of, preceded_by, fault_at, lexed_by, lexed_from, lexed_at}
 use Rattle.tptp_lexer.specs.declared.piece.Piece.{Piece}
 use Rattle.tptp_lexer.specs.declared.piece.Piece.TheVariants.{Blank, Lexeme, Fault, End}
 use Rattle.tptp_lexer.specs.declared.spot.Spot.{Spot}
@@ -38,7 +38,7 @@ lexed_from-blank (b ∷ bs) spot n e some le =
 
 -- the token comes before what is behind it
 abbrev pub preceded : List ℕ → Spot → ℕ → TokenKind → Lexed → Lexed
-preceded bytes spot n kind lexed = record { tokens = token_of spot kind (take n bytes) ∷ lexed.tokens; fault = lexed.fault }
+preceded bytes spot n kind lexed = preceded_by (token_of spot kind (take n bytes)) lexed
 
 pub lexed_from-lexeme : (bytes : List ℕ) (spot : Spot) (kind : TokenKind) (n : ℕ) → piece_of bytes ≡ Lexeme kind n → 0 < n → n ≤ length bytes
     → lexed_from bytes spot 0 ≡ preceded bytes spot n kind (behind bytes spot n)

@@ -4,3 +4,5 @@ pub mod Steps
 pub mod Within
 pub mod Places
 pub mod Lexing
+pub mod Stretches
+pub mod Starts

@@ -5,3 +5,4 @@ pub mod Numbers
 pub mod Pieces
 pub mod Spots
 pub mod Tokens
+pub mod Reading

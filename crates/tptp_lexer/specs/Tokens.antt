@@ -38,12 +38,15 @@ token_of spot kind text = record {
 abbrev pub fault_at : LexKind → Spot → LexFault
 fault_at kind spot = record { kind = kind; line = spot.line; column = spot.column }
 
+-- this token before these
+abbrev pub preceded_by : Token → Lexed → Lexed
+preceded_by token lexed = record { tokens = token ∷ lexed.tokens; fault = lexed.fault }
+
 -- what a piece at the front of these bytes gives; `behind` gives what comes behind it, where so many of its bytes but the first are still to be passed
 abbrev pub lexed_by : Piece → Spot → List ℕ → (ℕ → Lexed) → Lexed
 lexed_by End spot bytes behind = record { tokens = []; fault = None }
 lexed_by (Blank n) spot bytes behind = behind (n - 1)
-lexed_by (Lexeme kind n) spot bytes behind =
-    let later = behind (n - 1) in record { tokens = token_of spot kind (take n bytes) ∷ later.tokens; fault = later.fault }
+lexed_by (Lexeme kind n) spot bytes behind = preceded_by (token_of spot kind (take n bytes)) (behind (n - 1))
 lexed_by (Fault kind n) spot bytes behind = record { tokens = []; fault = Some (fault_at kind (passed spot (take n bytes))) }
 
 -- the tokens of these bytes, the first of which is at this place, once so many bytes of a piece under way are passed
