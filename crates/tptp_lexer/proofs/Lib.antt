@@ -6,3 +6,5 @@ pub mod Places
 pub mod Lexing
 pub mod Stretches
 pub mod Starts
+pub mod Runs
+pub mod NumberForms

@@ -6,3 +6,5 @@ pub mod Pieces
 pub mod Spots
 pub mod Tokens
 pub mod Reading
+pub mod Forms
+pub mod Cuts
