@@ -8,3 +8,4 @@ pub mod Stretches
 pub mod Starts
 pub mod Runs
 pub mod NumberForms
+pub mod QuoteForms
