@@ -9,3 +9,6 @@ pub mod Starts
 pub mod Runs
 pub mod NumberForms
 pub mod QuoteForms
+pub mod CommentForms
+pub mod PieceForms
+pub mod NumberBounds
