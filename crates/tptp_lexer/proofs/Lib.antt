@@ -12,3 +12,4 @@ pub mod QuoteForms
 pub mod CommentForms
 pub mod PieceForms
 pub mod NumberBounds
+pub mod PieceBounds

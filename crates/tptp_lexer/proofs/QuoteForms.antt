@@ -1,7 +1,7 @@
 -- A quoted form as it is scanned has its form, and a form is scanned to its end.
 use Rattle.std.proofs.Common.{◌≡◌, ◌⊎◌, inl, inr, ℕ, zero, suc, ◌+◌, ◌≤◌, ◌<◌, Bool, true, false, true≢false, cond, not, ◌==◌, ◌&&◌, ◌||◌, List, [], ◌∷◌, ◌++◌, length, take, drop, Option, Some, None, refl, ap, sym, subst, ◌∙◌, arith, append_assoc}
 use Rattle.std.specs.Option.{option_map}
-use Rattle.std.proofs.lemmas.Bool.{and_parts, and_cases, or_cases, or_from, or_parts, eqb-true, not-true, not-false, cond-true, cond-false, and_right, and_left, eq-eqb}
+use Rattle.std.proofs.lemmas.Bool.{and_parts, and_cases, or_cases, or_from, or_parts, eqb-true, not-true, not-false, cond-true, cond-false, and_right, and_left, eq-eqb, not_from_true}
 use Rattle.std.proofs.lemmas.Bool.Decides.{nat_tests}
 use Rattle.tptp_lexer.specs.Bytes.{is_line_end, is_printable, begins}
 use Rattle.tptp_lexer.specs.Quotes.{before_quote, is_escaped, first_flaw, one_later}
@@ -181,3 +181,31 @@ before_quote-items quote (escaped c ∷ items) more mark good =
     let second = before_quote-next quote true c (bytes_of items ++ quote ∷ more) (length (bytes_of items)) false (escaped-stays quote c mark (or_cases (c == quote) (c == 92) good.0))
         (and_right (c == quote) false refl) (and_right (c == 92) false refl) rest in
     before_quote-next quote false 92 (c ∷ (bytes_of items ++ quote ∷ more)) (suc (length (bytes_of items))) true backslash-stays (and_left (92 == quote) true mark.other) refl second
+
+first_flaw-next : (quote : ℕ) (paired : Bool) (b : ℕ) (bs : List ℕ) (next : Bool) → is_printable b ≡ true → b == 92 && not paired && not (begins (is_escaped quote) bs) ≡ false → b == 92 && not paired ≡ next
+    → first_flaw quote next bs ≡ None → first_flaw quote paired (b ∷ bs) ≡ None
+unfolding first_flaw
+first_flaw-next quote paired b bs next printable escape pairs later = rw (printable, escape, pairs, later) refl
+
+backslash-prints : is_printable 92 ≡ true
+unfolding is_printable
+backslash-prints = refl
+
+escaped-prints : (quote b : ℕ) → is_printable quote ≡ true → (b == quote ≡ true) ⊎ (b == 92 ≡ true) → is_printable b ≡ true
+escaped-prints quote b prints (inl e) = subst (λ x. is_printable x ≡ true) (sym (eqb-true b quote e)) prints
+escaped-prints quote b prints (inr e) = subst (λ x. is_printable x ≡ true) (sym (eqb-true b 92 e)) backslash-prints
+
+-- what is inside a form has no fault
+pub first_flaw-items : (quote : ℕ) (items : List Item) → is_printable quote ≡ true → AreItems quote items → first_flaw quote false (bytes_of items) ≡ None
+unfolding first_flaw
+first_flaw-items quote [] prints good = refl
+first_flaw-items quote (plain b ∷ items) prints good =
+    let apart = or_parts (b == quote) (b == 92) good.1 in
+    let unpaired = and_left (b == 92) true apart.1 in
+    first_flaw-next quote false b (bytes_of items) false good.0 (and_left (b == 92 && not false) (not (begins (is_escaped quote) (bytes_of items))) unpaired) unpaired
+    (first_flaw-items quote items prints good.2)
+first_flaw-items quote (escaped c ∷ items) prints good =
+    let unpaired = and_right (c == 92) false refl in
+    let second = first_flaw-next quote true c (bytes_of items) false (escaped-prints quote c prints (or_cases (c == quote) (c == 92) good.0))
+        (and_left (c == 92 && not true) (not (begins (is_escaped quote) (bytes_of items))) unpaired) unpaired (first_flaw-items quote items prints good.1) in
+    first_flaw-next quote false 92 (c ∷ bytes_of items) true backslash-prints (and_right true (not (c == quote || c == 92)) (not_from_true (c == quote || c == 92) good.0)) refl second
