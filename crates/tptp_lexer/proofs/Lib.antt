@@ -13,3 +13,4 @@ pub mod CommentForms
 pub mod PieceForms
 pub mod NumberBounds
 pub mod PieceBounds
+pub mod CutLaw

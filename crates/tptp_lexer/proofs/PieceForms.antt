@@ -14,17 +14,25 @@ use Rattle.tptp_lexer.specs.declared.piece.Piece.{Piece}
 use Rattle.tptp_lexer.specs.declared.piece.Piece.TheVariants.{Blank, Lexeme, Fault, End}
 use Rattle.tptp_lexer.specs.declared.token.TokenKind.{TokenKind}
 use Rattle.tptp_lexer.specs.declared.token.TokenKind.TheVariants.{Lower, Upper, Quoted, Distinct, Dollar, Number, NotEqual, Punct}
-use Rattle.tptp_lexer.specs.declared.token.LexKind.TheVariants.{BadByte, OpenQuote, OpenComment}
+use Rattle.tptp_lexer.specs.declared.token.LexKind.{LexKind}
+use Rattle.tptp_lexer.specs.declared.token.LexKind.TheVariants.{BadByte, OpenQuote, BadEscape, OpenComment}
 use Rattle.tptp_lexer.proofs.Runs.{each-run}
 use Rattle.tptp_lexer.proofs.NumberForms.{number-form}
-use Rattle.tptp_lexer.proofs.QuoteForms.{IsInside, inside-form}
-use Rattle.tptp_lexer.proofs.CommentForms.{line-ends, before_close-first}
+use Rattle.tptp_lexer.proofs.QuoteForms.{IsInside, inside-form, first_flaw-kind}
+use Rattle.tptp_lexer.proofs.CommentForms.{line-ends, before_close-first, before_close-none}
+
+-- an open comment is one
+abbrev pub IsOpen : LexKind → List ℕ → Type 0
+IsOpen OpenComment bytes = (inside : List ℕ) × (HoldsClose inside → ⊥) × (bytes ≡ 47 ∷ 42 ∷ inside)
+IsOpen BadByte bytes = Unit {0}
+IsOpen OpenQuote bytes = Unit {0}
+IsOpen BadEscape bytes = Unit {0}
 
 -- the piece at the front of these bytes has its form
 abbrev pub IsRight : List ℕ → Piece → Type 0
 IsRight bytes (Blank n) = IsBlank (take n bytes) (drop n bytes)
 IsRight bytes (Lexeme kind n) = HasForm kind (take n bytes)
-IsRight bytes (Fault kind n) = Unit {0}
+IsRight bytes (Fault kind n) = IsOpen kind bytes
 IsRight bytes End = bytes ≡ []
 
 -- a single byte that may stand alone
@@ -32,7 +40,7 @@ pub mark-right : (b : ℕ) (bs : List ℕ) (mark : ℕ) → b ≡ mark → is_ma
 mark-right b bs mark is good = (ap (λ c. c ∷ []) is, good)
 
 block-right : (b c : ℕ) (bs : List ℕ) (found : Option ℕ) → b ≡ 47 → c ≡ 42 → before_close bs ≡ found → IsRight (b ∷ c ∷ bs) (block_piece found)
-block-right b c bs None p q e = tt
+block-right b c bs None p q e = (bs, before_close-none bs e, rw (p, q) refl)
 block-right b c bs (Some n) p q e =
     let close = before_close-first bs n e in
     let size : 4 + n ≡ suc (suc (2 + n)) = omega arith in
@@ -48,7 +56,7 @@ slash-right b (c ∷ bs) is =
 -- a form between these quotes, of this kind
 closed-right : (kind : TokenKind) (quote b : ℕ) (bs : List ℕ) (n : ℕ) (found : Option Flaw) → ((text : List ℕ) → IsQuotedBy quote text → HasForm kind text) → b ≡ quote
     → before_quote quote false bs ≡ Some n → first_flaw quote false (take n bs) ≡ found → IsRight (b ∷ bs) (closed_piece kind n found)
-closed-right kind quote b bs n (Some flaw) has is e f = tt
+closed-right kind quote b bs n (Some flaw) has is e f = first_flaw-kind (λ k. IsOpen k (b ∷ bs)) tt tt quote false (take n bs) flaw f
 closed-right kind quote b bs n None has is e f =
     let inside = inside-form quote bs n e f in
     let size : 2 + n ≡ suc (suc n) = omega arith in

@@ -7,6 +7,7 @@ use Rattle.tptp_lexer.specs.Bytes.{is_line_end, is_printable, begins}
 use Rattle.tptp_lexer.specs.Quotes.{before_quote, is_escaped, first_flaw, one_later}
 use Rattle.tptp_lexer.specs.Forms.{Item, plain, escaped, bytes_of, AreItems}
 use Rattle.tptp_lexer.specs.declared.piece.Flaw.{Flaw}
+use Rattle.tptp_lexer.specs.declared.token.LexKind.{LexKind}
 use Rattle.tptp_lexer.specs.declared.token.LexKind.TheVariants.{BadByte, BadEscape}
 
 -- what is inside, and the quote behind it
@@ -209,3 +210,17 @@ first_flaw-items quote (escaped c ∷ items) prints good =
     let second = first_flaw-next quote true c (bytes_of items) false (escaped-prints quote c prints (or_cases (c == quote) (c == 92) good.0))
         (and_left (c == 92 && not true) (not (begins (is_escaped quote) (bytes_of items))) unpaired) unpaired (first_flaw-items quote items prints good.1) in
     first_flaw-next quote false 92 (c ∷ bytes_of items) true backslash-prints (and_right true (not (c == quote || c == 92)) (not_from_true (c == quote || c == 92) good.0)) refl second
+
+-- a fault inside quotes is one of two kinds
+pub first_flaw-kind : (P : LexKind → Type 0) → P BadByte → P BadEscape → (quote : ℕ) (paired : Bool) (bytes : List ℕ) (flaw : Flaw) → first_flaw quote paired bytes ≡ Some flaw → P flaw.kind
+unfolding first_flaw
+first_flaw-kind P p q quote paired [] flaw e = cc
+first_flaw-kind P p q quote paired (b ∷ bs) flaw e =
+    by (not (is_printable b)) (b == 92 && not paired && not (begins (is_escaped quote) bs)) (first_flaw quote (b == 92 && not paired) bs) (first_flaw-kind P p q quote (b == 92 && not paired) bs) e
+  where
+    by : (t u : Bool) → (found : Option Flaw) → ((f : Flaw) → found ≡ Some f → P f.kind)
+        → cond t (Some (record { kind = BadByte; before = 0 })) (cond u (Some (record { kind = BadEscape; before = 0 })) (option_map one_later found)) ≡ Some flaw → P flaw.kind
+    by true u found more e = let is : record { kind = BadByte; before = 0 } ≡ flaw = cc in subst P (ap (λ f. f.kind) is) p
+    by false true found more e = let is : record { kind = BadEscape; before = 0 } ≡ flaw = cc in subst P (ap (λ f. f.kind) is) q
+    by false false None more e = cc
+    by false false (Some f) more e = let is : one_later f ≡ flaw = cc in subst P (ap (λ g. g.kind) is) (more f refl)

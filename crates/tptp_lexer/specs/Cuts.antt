@@ -5,6 +5,7 @@ use Rattle.tptp_lexer.specs.Bytes.{is_white, is_in_line}
 use Rattle.tptp_lexer.specs.Forms.{Each, HasForm, IsToken}
 use Rattle.tptp_lexer.specs.declared.token.Token.{Token}
 use Rattle.tptp_lexer.specs.declared.token.LexKind.{LexKind}
+use Rattle.tptp_lexer.specs.declared.token.LexKind.TheVariants.{BadByte, OpenQuote, BadEscape, OpenComment}
 use Rattle.tptp_lexer.specs.declared.token.LexFault.{LexFault}
 
 -- one byte of white space
@@ -41,6 +42,14 @@ AreBlank (text ∷ texts) after = IsBlank text (concat texts ++ after) × AreBla
 abbrev pub IsGap : List ℕ → List ℕ → Type 0
 IsGap gap after = (texts : List (List ℕ)) × AreBlank texts after × (gap ≡ concat texts)
 
+-- no white space and no comment begins here
+abbrev pub NoBlank : List ℕ → Type 0
+NoBlank bytes = (front rest : List ℕ) → bytes ≡ front ++ rest → IsBlank front rest → ⊥
+
+-- no token begins here
+abbrev pub NoToken : List ℕ → Type 0
+NoToken bytes = (front rest : List ℕ) → bytes ≡ front ++ rest → IsToken front → ⊥
+
 -- no longer front of what stands there is a token
 abbrev pub IsLongest : List ℕ → List ℕ → Type 0
 IsLongest text after = (more rest : List ℕ) → after ≡ more ++ rest → more ≢ [] → IsToken (text ++ more) → ⊥
@@ -55,11 +64,19 @@ pub record IsNext (offset : ℕ) (bytes : List ℕ) (token : Token) (after : Lis
   pub stop : token.end ≡ offset + length gap + length text
   pub form : HasForm token.kind text
   pub longest : IsLongest text after
+  pub no_blank : NoBlank (text ++ after)
 
--- behind the last token stands a gap, up to the end or to the fault
+-- why nothing can be cut off here: an open comment, or bytes that no token begins
+abbrev pub IsStuck : LexKind → List ℕ → Type 0
+IsStuck OpenComment bytes = (inside : List ℕ) × (HoldsClose inside → ⊥) × (bytes ≡ 47 ∷ 42 ∷ inside)
+IsStuck BadByte bytes = (bytes ≢ []) × NoToken bytes
+IsStuck OpenQuote bytes = (bytes ≢ []) × NoToken bytes
+IsStuck BadEscape bytes = (bytes ≢ []) × NoToken bytes
+
+-- behind the last token stands a gap, up to the end, or up to where the text is stuck
 abbrev pub EndsBy : List ℕ → Option LexFault → Type 0
 EndsBy bytes None = IsGap bytes []
-EndsBy bytes (Some fault) = (gap : List ℕ) × (after : List ℕ) × (bytes ≡ gap ++ after) × IsGap gap after
+EndsBy bytes (Some fault) = (gap : List ℕ) × (after : List ℕ) × (bytes ≡ gap ++ after) × IsGap gap after × NoBlank after × IsStuck fault.kind after
 
 -- these bytes, so many bytes behind the front, are gaps and these tokens in turn, up to the end or to the fault
 abbrev pub IsCut : ℕ → List ℕ → List Token → Option LexFault → Type 0

@@ -4,6 +4,7 @@
 mod bytes;
 mod comments;
 mod cursor;
+mod laws;
 mod lexer;
 mod numbers;
 mod piece;
@@ -12,6 +13,7 @@ mod spot;
 mod token;
 
 pub use cursor::{Cursor, next_token};
+pub use laws::tokens_cut_the_text;
 pub use lexer::Lexer;
 pub use spot::Spot;
 pub use token::{LexFault, LexKind, Token, TokenKind};
