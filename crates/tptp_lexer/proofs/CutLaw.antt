@@ -189,7 +189,7 @@ cut-few offset bytes [] fault cut = omega arith
 cut-few offset bytes (token ∷ tokens) fault (after, next, more) =
     let some = form-some token.kind next.text next.form in
     let size : length bytes ≡ length next.gap + (length next.text + length after) =
-        ap length next.cut ∙ length-append next.gap (next.text ++ after) ∙ ap (λ n. length next.gap + n) (length-append next.text after) in
+    ap length next.cut ∙ length-append next.gap (next.text ++ after) ∙ ap (λ n. length next.gap + n) (length-append next.text after) in
     omega (arith, some, size, cut-few token.end after tokens fault more)
 
 pub tokens-few : (bytes : List ℕ) → length (tokens_of bytes).tokens ≤ length bytes

@@ -136,9 +136,9 @@ decimal-led : (whole fraction exponent text more : List ℕ) → IsSigned whole 
 decimal-led [] fraction exponent text more signed form raised is = absurd signed
 decimal-led (b ∷ bs) fraction exponent text more signed form raised is =
     let apart : (bs ++ (fraction ++ exponent)) ++ more ≡ bs ++ (fraction ++ (exponent ++ more)) =
-        append_assoc bs (fraction ++ exponent) more ∙ ap (λ l. bs ++ l) (append_assoc fraction exponent more) in
+    append_assoc bs (fraction ++ exponent) more ∙ ap (λ l. bs ++ l) (append_assoc fraction exponent more) in
     let size : length text ≡ suc (length bs) + (length fraction + length exponent) =
-        ap length is ∙ length-append (b ∷ bs) (fraction ++ exponent) ∙ ap (λ n. suc (length bs) + n) (length-append fraction exponent) in
+    ap length is ∙ length-append (b ∷ bs) (fraction ++ exponent) ∙ ap (λ n. suc (length bs) + n) (length-append fraction exponent) in
     record {
       first = b;
       rest = bs ++ (fraction ++ exponent);
@@ -151,8 +151,12 @@ decimal-led (b ∷ bs) fraction exponent text more signed form raised is =
         → length text ≤ 1 + number_rest_len (bs ++ (fraction ++ (exponent ++ more)))
     by size (inl none) = omega (arith, size, none, rest-least bs (fraction ++ (exponent ++ more)) (whole-each b bs signed))
     by size (inr some) =
-        omega (arith, size, tail-least fraction exponent more form raised,
-            rest-exact bs (fraction ++ (exponent ++ more)) (whole-each b bs signed) (tail-begins fraction exponent more form raised some))
+        omega (
+          arith,
+          size,
+          tail-least fraction exponent more form raised,
+          rest-exact bs (fraction ++ (exponent ++ more)) (whole-each b bs signed) (tail-begins fraction exponent more form raised some),
+        )
 
 pub number-led : (text more : List ℕ) → IsNumber text → IsLed text more
 number-led text more (inl form) = quotient-led form.0 form.1 text more form.2 form.3 form.4

@@ -70,9 +70,9 @@ tail-form whole bytes signed =
     cond_both (nat_lt 0 (marked_len 47 bytes)) (marked_len 47 bytes) (decimal_len bytes) (λ n. IsNumber (whole ++ take n bytes))
     (λ e. let form = marked-form 47 bytes (ltb-true 0 (marked_len 47 bytes) e) in inl (whole, form.0, signed, form.1, ap (λ l. whole ++ l) form.2))
     (λ e.
-        let f = marked_len 46 bytes in
-        let x = exponent_len (drop f bytes) in
-        inr (whole, take f bytes, take x (drop f bytes), signed, fraction-form bytes, exponent-form (drop f bytes), ap (λ l. whole ++ l) (take-add f x bytes)))
+    let f = marked_len 46 bytes in
+    let x = exponent_len (drop f bytes) in
+    inr (whole, take f bytes, take x (drop f bytes), signed, fraction-form bytes, exponent-form (drop f bytes), ap (λ l. whole ++ l) (take-add f x bytes)))
 
 pub number-form : (b : ℕ) (bs : List ℕ) → starts_number b bs ≡ true → IsNumber (take (1 + number_rest_len bs) (b ∷ bs))
 unfolding number_rest_len
@@ -81,5 +81,5 @@ number-form b bs e =
     let t = number_tail_len (drop d bs) in
     let next : 1 + (d + t) ≡ suc (d + t) = omega arith in
     let text : take (1 + (d + t)) (b ∷ bs) ≡ (b ∷ take d bs) ++ take t (drop d bs) =
-        ap (λ n. take n (b ∷ bs)) next ∙ ap (λ l. b ∷ l) (take-add d t bs) in
+    ap (λ n. take n (b ∷ bs)) next ∙ ap (λ l. b ∷ l) (take-add d t bs) in
     subst IsNumber (sym text) (tail-form (b ∷ take d bs) (drop d bs) (whole-form b bs e))

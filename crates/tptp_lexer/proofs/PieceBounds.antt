@@ -107,7 +107,7 @@ number-bound : (text more : List ℕ) → HasForm Number text → IsAtLeast (len
 number-bound text more form =
     let led = number-led text more form in
     let piece : piece_of (text ++ more) ≡ Lexeme Number (1 + number_rest_len (led.rest ++ more)) =
-        ap (λ l. piece_of (l ++ more)) led.is ∙ piece-number led.first (led.rest ++ more) led.starts in
+    ap (λ l. piece_of (l ++ more)) led.is ∙ piece-number led.first (led.rest ++ more) led.starts in
     subst (IsAtLeast (length text)) (sym piece) led.least
 
 -- a form with its closing quote is scanned to that quote
@@ -129,7 +129,7 @@ single-bound : (text more : List ℕ) → IsQuotedBy 39 text → IsAtLeast (leng
 single-bound text more (items, good, is) =
     let rest : (bytes_of items ++ 39 ∷ []) ++ more ≡ bytes_of items ++ 39 ∷ more = append_assoc (bytes_of items) (39 ∷ []) more in
     let piece : piece_of (text ++ more) ≡ quoted_piece Quoted 39 (bytes_of items ++ 39 ∷ more) =
-        ap (λ l. piece_of (l ++ more)) is ∙ piece-single ((bytes_of items ++ 39 ∷ []) ++ more) ∙ ap (quoted_piece Quoted 39) rest in
+    ap (λ l. piece_of (l ++ more)) is ∙ piece-single ((bytes_of items ++ 39 ∷ []) ++ more) ∙ ap (quoted_piece Quoted 39) rest in
     let size : length text ≡ 2 + length (bytes_of items) = ap length is ∙ form-size 39 items in
     rw (piece, size) (quoted-bound Quoted 39 items more single printable-quotes.0 good)
 
@@ -137,7 +137,7 @@ double-bound : (text more : List ℕ) → IsQuotedBy 34 text → IsAtLeast (leng
 double-bound text more (items, good, is) =
     let rest : (bytes_of items ++ 34 ∷ []) ++ more ≡ bytes_of items ++ 34 ∷ more = append_assoc (bytes_of items) (34 ∷ []) more in
     let piece : piece_of (text ++ more) ≡ quoted_piece Distinct 34 (bytes_of items ++ 34 ∷ more) =
-        ap (λ l. piece_of (l ++ more)) is ∙ piece-double ((bytes_of items ++ 34 ∷ []) ++ more) ∙ ap (quoted_piece Distinct 34) rest in
+    ap (λ l. piece_of (l ++ more)) is ∙ piece-double ((bytes_of items ++ 34 ∷ []) ++ more) ∙ ap (quoted_piece Distinct 34) rest in
     let size : length text ≡ 2 + length (bytes_of items) = ap length is ∙ form-size 34 items in
     rw (piece, size) (quoted-bound Distinct 34 items more double printable-quotes.1 good)
 

@@ -97,9 +97,9 @@ dollar-two b [] is e = cc
 dollar-two b (c ∷ bs) is e =
     cond_both (name_len bs == 0) (Lexeme (Punct 36) 1) (Lexeme Dollar (2 + name_len bs)) (IsRight (b ∷ c ∷ bs)) (λ _. dollar-alone b (c ∷ bs) is)
     (λ f.
-        let next : 2 + name_len bs ≡ suc (suc (name_len bs)) = omega arith in
-        let same : c ≡ 36 = eqb-true c 36 e in
-        rw next (take (name_len bs) bs, name-form bs f, inr (rw (is, same) refl)))
+    let next : 2 + name_len bs ≡ suc (suc (name_len bs)) = omega arith in
+    let same : c ≡ 36 = eqb-true c 36 e in
+    rw next (take (name_len bs) bs, name-form bs f, inr (rw (is, same) refl)))
 
 dollar-right : (b : ℕ) (bs : List ℕ) → b ≡ 36 → IsRight (b ∷ bs) (dollar_piece bs)
 unfolding dollar_piece

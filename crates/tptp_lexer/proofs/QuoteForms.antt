@@ -121,8 +121,10 @@ inside-form quote (b ∷ c ∷ bs) n e f =
       where
         yet : NotYet quote b false (c ∷ bs) n
         yet = later.1
+
         clean : NoFlaw quote b false (take yet.less (c ∷ bs))
         clean = first_flaw-none quote false b (take yet.less (c ∷ bs)) (rw yet.one_less at f)
+
         pair : (t : Bool) → b == 92 ≡ t → IsInside quote (b ∷ c ∷ bs) n
         pair false is =
             let found : before_quote quote false (c ∷ bs) ≡ Some yet.less = subst (λ p. before_quote quote (p && not false) (c ∷ bs) ≡ Some yet.less) is yet.later in
@@ -133,7 +135,7 @@ inside-form quote (b ∷ c ∷ bs) n e f =
             let found : before_quote quote true (c ∷ bs) ≡ Some yet.less = subst (λ p. before_quote quote (p && not false) (c ∷ bs) ≡ Some yet.less) is yet.later in
             let sound : first_flaw quote true (take yet.less (c ∷ bs)) ≡ None = subst (λ p. first_flaw quote (p && not false) (take yet.less (c ∷ bs)) ≡ None) is clean.later in
             let good : not (begins (is_escaped quote) (take yet.less (c ∷ bs))) ≡ false =
-                subst (λ p. p && not false && not (begins (is_escaped quote) (take yet.less (c ∷ bs))) ≡ false) is clean.escape in
+            subst (λ p. p && not false && not (begins (is_escaped quote) (take yet.less (c ∷ bs))) ≡ false) is clean.escape in
             let inside = pair-inside quote c bs yet.less found sound (not-false (begins (is_escaped quote) (take yet.less (c ∷ bs))) good) twice in
             subst (λ x. IsInside quote (x ∷ c ∷ bs) n) (sym (eqb-true b 92 is)) (subst (IsInside quote (92 ∷ c ∷ bs)) (sym yet.one_less) inside)
 
@@ -180,7 +182,7 @@ before_quote-items quote (plain b ∷ items) more mark good =
 before_quote-items quote (escaped c ∷ items) more mark good =
     let rest = before_quote-items quote items more mark good.1 in
     let second = before_quote-next quote true c (bytes_of items ++ quote ∷ more) (length (bytes_of items)) false (escaped-stays quote c mark (or_cases (c == quote) (c == 92) good.0))
-        (and_right (c == quote) false refl) (and_right (c == 92) false refl) rest in
+    (and_right (c == quote) false refl) (and_right (c == 92) false refl) rest in
     before_quote-next quote false 92 (c ∷ (bytes_of items ++ quote ∷ more)) (suc (length (bytes_of items))) true backslash-stays (and_left (92 == quote) true mark.other) refl second
 
 first_flaw-next : (quote : ℕ) (paired : Bool) (b : ℕ) (bs : List ℕ) (next : Bool) → is_printable b ≡ true → b == 92 && not paired && not (begins (is_escaped quote) bs) ≡ false → b == 92 && not paired ≡ next
@@ -208,7 +210,7 @@ first_flaw-items quote (plain b ∷ items) prints good =
 first_flaw-items quote (escaped c ∷ items) prints good =
     let unpaired = and_right (c == 92) false refl in
     let second = first_flaw-next quote true c (bytes_of items) false (escaped-prints quote c prints (or_cases (c == quote) (c == 92) good.0))
-        (and_left (c == 92 && not true) (not (begins (is_escaped quote) (bytes_of items))) unpaired) unpaired (first_flaw-items quote items prints good.1) in
+    (and_left (c == 92 && not true) (not (begins (is_escaped quote) (bytes_of items))) unpaired) unpaired (first_flaw-items quote items prints good.1) in
     first_flaw-next quote false 92 (c ∷ bytes_of items) true backslash-prints (and_right true (not (c == quote || c == 92)) (not_from_true (c == quote || c == 92) good.0)) refl second
 
 -- a fault inside quotes is one of two kinds

@@ -69,7 +69,7 @@ stretch-place bytes spot rest text n s next e =
     let offset : next.offset ≡ spot.offset + n = omega (arith, near.offset, room.size) in
     let text_is : text ≡ take n (drop spot.offset bytes) = s.text_is ∙ ap (take n) s.rest_is in
     let counted : next ≡ spot_at bytes (spot.offset + n) =
-        e ∙ ap (passed spot) text_is ∙ ap (λ p. passed p (take n (drop spot.offset bytes))) s.placed.counted ∙ sym (spot_at-more bytes spot.offset n) in
+    e ∙ ap (passed spot) text_is ∙ ap (λ p. passed p (take n (drop spot.offset bytes))) s.placed.counted ∙ sym (spot_at-more bytes spot.offset n) in
     (offset, record { within = omega (arith, offset, room.offset, room.size); counted = counted ∙ ap (spot_at bytes) (sym offset) })
 
 lexed_at-here : (bytes : List ℕ) (spot : Spot) (rest : List ℕ) → IsPlace bytes spot → rest ≡ drop spot.offset bytes → lexed_at bytes spot.offset ≡ lexed_from rest spot 0

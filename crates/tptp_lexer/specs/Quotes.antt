@@ -28,5 +28,5 @@ first_flaw quote paired (b ∷ bs) =
     if not (is_printable b)
     then Some (record { kind = BadByte; before = 0 })
     else (if b == 92 && not paired && not (begins (is_escaped quote) bs)
-        then Some (record { kind = BadEscape; before = 0 })
-        else option_map one_later (first_flaw quote (b == 92 && not paired) bs))
+    then Some (record { kind = BadEscape; before = 0 })
+    else option_map one_later (first_flaw quote (b == 92 && not paired) bs))

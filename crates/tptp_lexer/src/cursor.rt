@@ -28,7 +28,10 @@ impl Cursor {
         ensures at { (bytes : List ℕ) → IsAt bytes result }
         ensures left { (bytes : List ℕ) → left_of bytes result ≡ tokens_of bytes }
     {
-        Cursor { spot: first_spot(), fault: None }
+        Cursor {
+            spot: first_spot(),
+            fault: None,
+        }
     }
 }
 
@@ -74,7 +77,11 @@ fn fault_behind(bytes: &[u8], spot: Spot, kind: LexKind, n: usize) -> LexFault
     ensures { lexed_at bytes.now spot.offset ≡ record { tokens = []; fault = Some result } }
 {
     let at = pass(spot, front(skip(bytes, spot.offset as usize), n));
-    LexFault { kind, line: at.line, column: at.column }
+    LexFault {
+        kind,
+        line: at.line,
+        column: at.column,
+    }
 }
 
 /// The next token of a text, which the cursor is one of; None at the end. Takes no memory. A fault, like the end, is

@@ -10,5 +10,4 @@ ghost use Rattle.tptp_lexer.specs.Tokens.{tokens_of};
 pub fn tokens_cut_the_text()
     ensures cut { (bytes : List ℕ) → IsCut 0 bytes (tokens_of bytes).tokens (tokens_of bytes).fault }
     ensures few { (bytes : List ℕ) → length (tokens_of bytes).tokens ≤ length bytes }
-{
-}
+{}

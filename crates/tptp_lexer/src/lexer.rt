@@ -34,7 +34,10 @@ impl<'a> Lexer<'a> {
         ensures bytes { result.bytes ≡ bytes.now }
         ensures left { result.left ≡ tokens_of bytes.now }
     {
-        Lexer { bytes, cursor: Cursor::start() }
+        Lexer {
+            bytes,
+            cursor: Cursor::start(),
+        }
     }
 
     /// The next token; None at the end. Takes no memory. A fault, like the end, is answered again.

@@ -5,7 +5,9 @@ ghost use Rattle.std.specs.List.{list_all};
 ghost use Rattle.tptp_lexer.specs.Bytes as class;
 ghost use Rattle.tptp_lexer.specs.Numbers as number;
 
-use crate::bytes::{begins_digit, begins_with, digits_len, is_digit, is_exponent_mark, is_sign, skip};
+use crate::bytes::{
+    begins_digit, begins_with, digits_len, is_digit, is_exponent_mark, is_sign, skip,
+};
 
 /// Whether the byte begins a number before these.
 pub(crate) fn starts_number(first: u8, after: &[u8]) -> bool
@@ -23,7 +25,11 @@ fn marked_len(mark: u8, bytes: &[u8]) -> usize
         return 0;
     }
     let after = skip(bytes, 1);
-    if begins_digit(after) { 1 + digits_len(after) } else { 0 }
+    if begins_digit(after) {
+        1 + digits_len(after)
+    } else {
+        0
+    }
 }
 
 #[tactic(auto, using(crate::proofs::Lengths::lengths))]
@@ -35,7 +41,11 @@ fn signed_len(bytes: &[u8]) -> usize
         return 0;
     }
     let after = skip(bytes, 1);
-    if starts_number(bytes[0], after) { 1 + digits_len(after) } else { 0 }
+    if starts_number(bytes[0], after) {
+        1 + digits_len(after)
+    } else {
+        0
+    }
 }
 
 #[tactic(auto, using(crate::proofs::Lengths::lengths))]

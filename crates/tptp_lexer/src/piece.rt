@@ -3,7 +3,9 @@
 ghost use Rattle.std.specs.Prelude.{◌≡◌, ◌≤◌, length};
 ghost use Rattle.tptp_lexer.specs.Pieces as pieces;
 
-use crate::bytes::{begins_with, front, is_lower, is_upper, is_visible, is_white, line_len, skip, word_len};
+use crate::bytes::{
+    begins_with, front, is_lower, is_upper, is_visible, is_white, line_len, skip, word_len,
+};
 use crate::comments::before_close;
 use crate::numbers::{number_rest_len, starts_number};
 use crate::quotes::{before_quote, first_flaw};

@@ -42,11 +42,17 @@ pub(crate) fn first_flaw(quote: u8, bytes: &[u8]) -> Option<Flaw>
     let mut paired = false;
     for (i, b) in bytes.iter().enumerate() {
         if !is_printable(*b) {
-            return Some(Flaw { kind: LexKind::BadByte, before: i });
+            return Some(Flaw {
+                kind: LexKind::BadByte,
+                before: i,
+            });
         }
         let begins_pair = *b == b'\\' && !paired;
         if begins_pair && !begins_escaped(quote, skip(bytes, i + 1)) {
-            return Some(Flaw { kind: LexKind::BadEscape, before: i });
+            return Some(Flaw {
+                kind: LexKind::BadEscape,
+                before: i,
+            });
         }
         paired = begins_pair;
     }

@@ -18,7 +18,11 @@ pub struct Spot {
 pub(crate) const fn first_spot() -> Spot
     ensures { result ≡ spots.first_spot }
 {
-    Spot { offset: 0, line: 1, column: 1 }
+    Spot {
+        offset: 0,
+        line: 1,
+        column: 1,
+    }
 }
 
 // The place behind a byte.
@@ -29,9 +33,17 @@ fn past(spot: Spot, b: u8) -> Spot
     ensures { result ≡ spots.past spot b }
 {
     if b == b'\n' {
-        Spot { offset: spot.offset + 1, line: spot.line + 1, column: 1 }
+        Spot {
+            offset: spot.offset + 1,
+            line: spot.line + 1,
+            column: 1,
+        }
     } else {
-        Spot { offset: spot.offset + 1, line: spot.line, column: spot.column + 1 }
+        Spot {
+            offset: spot.offset + 1,
+            line: spot.line,
+            column: spot.column + 1,
+        }
     }
 }
 

@@ -1,5 +1,7 @@
 //! Tokens and the faults that end them.
 
+use thiserror::Error;
+
 /// What a token is.
 #[derive(Clone, Copy, Debug, PartialEq, Eq)]
 pub enum TokenKind {
@@ -38,20 +40,25 @@ pub struct Token {
 }
 
 /// What ends the tokens of a text early.
-#[derive(Clone, Copy, Debug, PartialEq, Eq)]
+#[derive(Clone, Copy, Debug, PartialEq, Eq, Error)]
 pub enum LexKind {
     /// A byte that begins no token, or may not stand in a quoted form.
+    #[error("byte not allowed")]
     BadByte,
     /// A quoted form without its closing quote on the line. The place is the opening quote.
+    #[error("quote not closed")]
     OpenQuote,
     /// A backslash that neither its quote nor a backslash follows.
+    #[error("bad escape")]
     BadEscape,
     /// A `/*` without its `*/`.
+    #[error("comment not closed")]
     OpenComment,
 }
 
 /// A fault with its place.
-#[derive(Clone, Copy, Debug, PartialEq, Eq)]
+#[derive(Clone, Copy, Debug, PartialEq, Eq, Error)]
+#[error("{line}:{column}: {kind}")]
 pub struct LexFault {
     pub kind: LexKind,
     /// From 1.

@@ -3,7 +3,6 @@ use Rattle.tptp_lexer.specs.Tokens.{IsAt, left_of}
 use Rattle.tptp_lexer.proofs.Starts.{IsAt-start, left_of-start}
 use Rattle.tptp_lexer.proofs.cursor.Cursor.start.Goals as goal
 
-
 pub returns-clause-at : goal.returns-clause-at
 returns-clause-at c = λ bytes. subst (λ spot. IsAt bytes (record { spot = spot; fault = None })) (sym c.first_spot.ensures) (IsAt-start bytes)
 
