@@ -16,8 +16,8 @@ pub(crate) fn starts_number(first: u8, after: &[u8]) -> bool
     is_digit(first) || (is_sign(first) && begins_digit(after))
 }
 
-#[tactic(auto, using(crate::proofs::Lengths::lengths))]
 // The length of a mark and the digits behind it, or 0.
+#[tactic(auto, using(crate::proofs::Lengths::lengths))]
 fn marked_len(mark: u8, bytes: &[u8]) -> usize
     ensures { result ≡ number.marked_len mark bytes.now }
 {
@@ -32,8 +32,8 @@ fn marked_len(mark: u8, bytes: &[u8]) -> usize
     }
 }
 
-#[tactic(auto, using(crate::proofs::Lengths::lengths))]
 // The length of digits with a sign or without, or 0.
+#[tactic(auto, using(crate::proofs::Lengths::lengths))]
 fn signed_len(bytes: &[u8]) -> usize
     ensures { result ≡ number.signed_len bytes.now }
 {
@@ -48,8 +48,8 @@ fn signed_len(bytes: &[u8]) -> usize
     }
 }
 
-#[tactic(auto, using(crate::proofs::Lengths::lengths))]
 // The length of an exponent, or 0.
+#[tactic(auto, using(crate::proofs::Lengths::lengths))]
 fn exponent_len(bytes: &[u8]) -> usize
     ensures { result ≡ number.exponent_len bytes.now }
 {
@@ -60,8 +60,8 @@ fn exponent_len(bytes: &[u8]) -> usize
     if signed > 0 { 1 + signed } else { 0 }
 }
 
-#[tactic(auto, using(crate::proofs::Lengths::lengths), unfolding(crate::specs::Numbers::number_tail_len))]
 // The length of what follows the first digits.
+#[tactic(auto, using(crate::proofs::Lengths::lengths), unfolding(crate::specs::Numbers::number_tail_len))]
 fn number_tail_len(bytes: &[u8]) -> usize
     ensures { result ≡ number.number_tail_len bytes.now }
 {
@@ -73,8 +73,8 @@ fn number_tail_len(bytes: &[u8]) -> usize
     fraction + exponent_len(skip(bytes, fraction))
 }
 
-#[tactic(auto, using(crate::proofs::Lengths::lengths), unfolding(crate::specs::Numbers::number_rest_len))]
 /// The length of a number behind its first byte.
+#[tactic(auto, using(crate::proofs::Lengths::lengths), unfolding(crate::specs::Numbers::number_rest_len))]
 pub(crate) fn number_rest_len(after: &[u8]) -> usize
     ensures { result ≡ number.number_rest_len after.now }
 {
@@ -89,8 +89,8 @@ fn all_digits(text: &[u8]) -> bool
     text.iter().all(|b| is_digit(*b))
 }
 
-#[tactic(auto, unfolding(crate::specs::Numbers::is_plain))]
 /// Whether these are digits alone, without a leading zero unless it is `0`.
+#[tactic(auto, unfolding(crate::specs::Numbers::is_plain))]
 pub(crate) fn is_plain(text: &[u8]) -> bool
     ensures { result ≡ number.is_plain text.now }
 {
