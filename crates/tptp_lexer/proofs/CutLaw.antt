@@ -1,14 +1,13 @@
 -- The tokens of a text cut it.
-use Rattle.std.proofs.Common.{◌≡◌, ◌≢◌, ◌⊎◌, inl, inr, true, false, ℕ, zero, suc, ◌+◌, ◌≤◌, ◌<◌, List, [], ◌∷◌, ◌++◌, length, take, drop, Option, Some, None, refl, ap, sym, subst, ◌∙◌, arith, append_assoc, length-append, length-take, length-drop}
-use Rattle.std.specs.List.{concat}
+use Rattle.std.proofs.Common.{◌≡◌, ◌≢◌, inl, inr, true, ℕ, zero, suc, ◌+◌, ◌≤◌, ◌<◌, List, [], ◌∷◌, ◌++◌, length, take, drop, Option, Some, None, refl, ap, sym, subst, ◌∙◌, arith, append_assoc, length-append, length-take, length-drop}
 use Rattle.std.proofs.lemmas.List.{take-append-drop, append-nil, nil_from_length}
 use Rattle.tptp_lexer.specs.Bytes.{is_white}
 use Rattle.tptp_lexer.specs.Comments.{line_len, before_close}
 use Rattle.tptp_lexer.specs.Pieces.{block_piece, slash_piece, piece_from, piece_of}
 use Rattle.tptp_lexer.specs.Spots.{passed, first_spot}
-use Rattle.tptp_lexer.specs.Tokens.{Lexed, token_of, fault_at, preceded_by, lexed_from, tokens_of}
-use Rattle.tptp_lexer.specs.Forms.{HasForm, IsToken}
-use Rattle.tptp_lexer.specs.Cuts.{IsWhite, IsLineComment, IsBlockComment, HoldsClose, IsBlank, AreBlank, IsGap, NoBlank, NoToken, IsLongest, IsNext, IsStuck, EndsBy, IsCut}
+use Rattle.tptp_lexer.specs.Tokens.{Lexed, token_of, lexed_from, tokens_of}
+use Rattle.tptp_lexer.specs.Forms.{HasForm}
+use Rattle.tptp_lexer.specs.Cuts.{HoldsClose, IsBlank, IsGap, NoBlank, NoToken, IsLongest, IsNext, IsStuck, EndsBy, IsCut}
 use Rattle.tptp_lexer.specs.declared.piece.Piece.{Piece}
 use Rattle.tptp_lexer.specs.declared.piece.Piece.TheVariants.{Blank, Lexeme, Fault, End}
 use Rattle.tptp_lexer.specs.declared.spot.Spot.{Spot}
@@ -20,10 +19,10 @@ use Rattle.tptp_lexer.specs.declared.token.LexKind.TheVariants.{BadByte, OpenQuo
 use Rattle.tptp_lexer.specs.declared.token.LexFault.{LexFault}
 use Rattle.tptp_lexer.proofs.Within.{IsWithin, piece-within}
 use Rattle.tptp_lexer.proofs.Places.{passed-behind}
-use Rattle.tptp_lexer.proofs.Lexing.{behind, preceded, lexed_from-blank, lexed_from-lexeme, lexed_from-fault, lexed_from-end}
+use Rattle.tptp_lexer.proofs.Lexing.{behind, lexed_from-blank, lexed_from-lexeme, lexed_from-fault, lexed_from-end}
 use Rattle.tptp_lexer.proofs.CommentForms.{before_close-none}
 use Rattle.tptp_lexer.proofs.NumberBounds.{number-led}
-use Rattle.tptp_lexer.proofs.PieceForms.{IsRight, IsOpen, piece-right}
+use Rattle.tptp_lexer.proofs.PieceForms.{IsRight, piece-right}
 use Rattle.tptp_lexer.proofs.PieceBounds.{IsAtLeast, form-bound, piece-percent, piece-slash}
 
 -- the piece is white space or a comment

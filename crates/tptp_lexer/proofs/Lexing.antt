@@ -1,14 +1,13 @@
 -- What is left of a text, one piece on.
-use Rattle.std.proofs.Common.{◌≡◌, ℕ, zero, suc, ◌+◌, ◌-◌, ◌≤◌, ◌<◌, Option, Some, None, List, [], ◌∷◌, length, take, drop, refl, ap, sym, subst, ◌∙◌, arith}
-use Rattle.tptp_lexer.specs.Pieces.{piece_from, piece_of}
-use Rattle.tptp_lexer.specs.Spots.{past, passed, spot_at}
-use Rattle.tptp_lexer.specs.Tokens.{Lexed, token_of, preceded_by, fault_at, lexed_by, lexed_from, lexed_at}
-use Rattle.tptp_lexer.specs.declared.piece.Piece.{Piece}
+use Rattle.std.proofs.Common.{◌≡◌, ℕ, zero, suc, ◌-◌, ◌≤◌, ◌<◌, Some, None, List, [], ◌∷◌, length, take, drop, refl, ap, sym, ◌∙◌, arith}
+use Rattle.tptp_lexer.specs.Pieces.{piece_of}
+use Rattle.tptp_lexer.specs.Spots.{past, passed}
+use Rattle.tptp_lexer.specs.Tokens.{Lexed, token_of, preceded_by, fault_at, lexed_by, lexed_from}
 use Rattle.tptp_lexer.specs.declared.piece.Piece.TheVariants.{Blank, Lexeme, Fault, End}
 use Rattle.tptp_lexer.specs.declared.spot.Spot.{Spot}
 use Rattle.tptp_lexer.specs.declared.token.TokenKind.{TokenKind}
 use Rattle.tptp_lexer.specs.declared.token.LexKind.{LexKind}
-use Rattle.tptp_lexer.proofs.Places.{passed-nil, passed-cons, spot_at-more}
+use Rattle.tptp_lexer.proofs.Places.{passed-nil, passed-cons}
 
 -- the rest of a piece under way is passed byte by byte
 pub lexed_from-passing : (bytes : List ℕ) (spot : Spot) (n : ℕ) → n ≤ length bytes → lexed_from bytes spot n ≡ lexed_from (drop n bytes) (passed spot (take n bytes)) 0

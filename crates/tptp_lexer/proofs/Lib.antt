@@ -14,3 +14,4 @@ pub mod PieceForms
 pub mod NumberBounds
 pub mod PieceBounds
 pub mod CutLaw
+pub mod LineLaw

@@ -1,12 +1,11 @@
 -- A number is scanned to its end.
-use Rattle.std.proofs.Common.{◌≡◌, ◌⊎◌, inl, inr, ℕ, zero, suc, ◌+◌, ◌≤◌, ◌<◌, Bool, true, false, cond, ◌==◌, ◌&&◌, ◌||◌, nat_lt, List, [], ◌∷◌, ◌++◌, length, take, drop, refl, ap, sym, subst, ◌∙◌, arith, length-append, append_assoc}
-use Rattle.std.specs.List.{prefix_len}
+use Rattle.std.proofs.Common.{◌≡◌, ◌⊎◌, inl, inr, ℕ, zero, suc, ◌+◌, ◌≤◌, ◌<◌, true, false, ◌==◌, ◌&&◌, nat_lt, List, [], ◌∷◌, ◌++◌, length, drop, refl, ap, sym, subst, ◌∙◌, arith, length-append, append_assoc}
 use Rattle.std.proofs.lemmas.Bool.{and_from, or_left, or_right, lt-ltb, eq-eqb}
 use Rattle.std.proofs.lemmas.Bool.Decides.{nat_tests}
 use Rattle.std.proofs.lemmas.List.{drop_at}
 use Rattle.tptp_lexer.specs.Bytes.{is_digit, is_sign, is_exponent_mark, begins}
-use Rattle.tptp_lexer.specs.Numbers.{digits_len, marked_len, starts_number, signed_len, exponent_len, decimal_len, number_tail_len, number_rest_len}
-use Rattle.tptp_lexer.specs.Forms.{Each, IsDigits, IsSigned, IsFraction, IsExponent, IsQuotient, IsDecimal, IsNumber}
+use Rattle.tptp_lexer.specs.Numbers.{marked_len, starts_number, signed_len, exponent_len, decimal_len, number_tail_len, number_rest_len}
+use Rattle.tptp_lexer.specs.Forms.{Each, IsDigits, IsSigned, IsFraction, IsExponent, IsNumber}
 use Rattle.tptp_lexer.proofs.Runs.{run-least, run-exact}
 
 digits-begin : (digits more : List ℕ) → IsDigits digits → begins is_digit (digits ++ more) ≡ true

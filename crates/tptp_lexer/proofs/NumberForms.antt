@@ -1,11 +1,10 @@
 -- A number as it is scanned has the form of a number.
-use Rattle.std.proofs.Common.{◌≡◌, ◌⊎◌, inl, inr, ℕ, zero, suc, ◌+◌, ◌≤◌, ◌<◌, Bool, true, false, cond, ◌==◌, ◌&&◌, ◌||◌, nat_lt, List, [], ◌∷◌, ◌++◌, length, take, drop, refl, ap, sym, subst, ◌∙◌, arith}
-use Rattle.std.specs.List.{prefix_len}
+use Rattle.std.proofs.Common.{◌≡◌, ◌⊎◌, inl, inr, ℕ, zero, suc, ◌+◌, ◌<◌, Bool, true, false, cond, ◌==◌, ◌&&◌, nat_lt, List, [], ◌∷◌, ◌++◌, take, drop, refl, ap, sym, subst, ◌∙◌, arith}
 use Rattle.std.proofs.lemmas.Bool.{and_parts, or_cases, eqb-true, ltb-true, cond_both}
 use Rattle.std.proofs.Math.Seq.{take-add}
 use Rattle.tptp_lexer.specs.Bytes.{is_digit, is_sign, is_exponent_mark, begins}
 use Rattle.tptp_lexer.specs.Numbers.{digits_len, marked_len, starts_number, signed_len, exponent_len, decimal_len, number_tail_len, number_rest_len}
-use Rattle.tptp_lexer.specs.Forms.{Each, IsDigits, IsSigned, IsFraction, IsExponent, IsQuotient, IsDecimal, IsNumber}
+use Rattle.tptp_lexer.specs.Forms.{IsDigits, IsSigned, IsFraction, IsExponent, IsNumber}
 use Rattle.tptp_lexer.proofs.Runs.{each-run}
 
 pub digits-form : (bytes : List ℕ) → begins is_digit bytes ≡ true → IsDigits (take (digits_len bytes) bytes)

@@ -1,14 +1,13 @@
 -- No front of a text that has the form of a token is longer than the piece there.
-use Rattle.std.proofs.Common.{◌≡◌, ◌⊎◌, inl, inr, ℕ, zero, suc, ◌+◌, ◌≤◌, ◌<◌, Bool, true, false, true≢false, cond, not, ◌==◌, ◌&&◌, ◌||◌, List, [], ◌∷◌, ◌++◌, length, take, drop, Option, Some, None, refl, ap, sym, subst, ◌∙◌, arith, append_assoc, length-append}
+use Rattle.std.proofs.Common.{◌≡◌, ◌⊎◌, inl, inr, ℕ, suc, ◌+◌, ◌≤◌, true, false, true≢false, not, ◌==◌, ◌&&◌, ◌||◌, List, [], ◌∷◌, ◌++◌, length, take, drop, Option, Some, None, refl, ap, sym, subst, ◌∙◌, arith, append_assoc, length-append}
 use Rattle.std.specs.List.{prefix_len}
-use Rattle.std.proofs.lemmas.Bool.{and_parts, or_cases, or_parts, not-true, eqb-true, cond_both}
+use Rattle.std.proofs.lemmas.Bool.{and_parts, or_cases, or_parts, not-true, cond_both}
 use Rattle.std.proofs.lemmas.Bool.Decides.{nat_tests}
 use Rattle.std.proofs.lemmas.List.{take_at}
 use Rattle.tptp_lexer.specs.Bytes.{is_white, is_lower, is_upper, is_digit, is_sign, is_word, is_visible, is_printable, begins}
 use Rattle.tptp_lexer.specs.Comments.{line_len, before_close}
-use Rattle.tptp_lexer.specs.Quotes.{before_quote, first_flaw}
 use Rattle.tptp_lexer.specs.Numbers.{starts_number, number_rest_len}
-use Rattle.tptp_lexer.specs.Pieces.{block_piece, slash_piece, closed_piece, quoted_piece_by, quoted_piece, name_len, named_piece, dollar_piece, bang_piece, mark_piece, piece_from, piece_of}
+use Rattle.tptp_lexer.specs.Pieces.{block_piece, slash_piece, quoted_piece, name_len, named_piece, dollar_piece, bang_piece, mark_piece, piece_from, piece_of}
 use Rattle.tptp_lexer.specs.Forms.{Item, bytes_of, AreItems, IsWordOf, IsLower, IsQuotedBy, IsDollar, is_mark, HasForm}
 use Rattle.tptp_lexer.specs.declared.piece.Piece.{Piece}
 use Rattle.tptp_lexer.specs.declared.piece.Piece.TheVariants.{Blank, Lexeme, Fault, End}

@@ -1,24 +1,24 @@
 -- Each piece has its form.
-use Rattle.std.proofs.Common.{◌≡◌, ◌⊎◌, inl, inr, ℕ, zero, suc, ◌+◌, ◌≤◌, ◌<◌, Bool, true, false, cond, not, ◌==◌, ◌&&◌, ◌||◌, List, [], ◌∷◌, ◌++◌, length, take, drop, Option, Some, None, refl, ap, sym, subst, ◌∙◌, arith}
+use Rattle.std.proofs.Common.{◌≡◌, inl, inr, ℕ, suc, ◌+◌, Bool, true, false, cond, ◌==◌, ◌&&◌, List, [], ◌∷◌, take, drop, Option, Some, None, refl, ap, arith}
 use Rattle.std.specs.List.{prefix_len}
-use Rattle.std.proofs.lemmas.Bool.{and_parts, and_from, or_from, or_parts, eqb-true, cond_both, not_from_false}
+use Rattle.std.proofs.lemmas.Bool.{or_parts, eqb-true, cond_both}
 use Rattle.tptp_lexer.specs.Bytes.{is_white, is_lower, is_upper, is_digit, is_sign, is_word, is_in_line, is_visible, begins}
 use Rattle.tptp_lexer.specs.Comments.{line_len, before_close}
 use Rattle.tptp_lexer.specs.Quotes.{before_quote, first_flaw}
-use Rattle.tptp_lexer.specs.Numbers.{starts_number, number_rest_len}
+use Rattle.tptp_lexer.specs.Numbers.{starts_number}
 use Rattle.tptp_lexer.specs.Pieces.{block_piece, slash_piece, closed_piece, quoted_piece_by, quoted_piece, name_len, named_piece, dollar_piece, bang_piece, mark_piece, piece_from, piece_of}
-use Rattle.tptp_lexer.specs.Forms.{Each, IsWordOf, IsLower, IsQuotedBy, is_mark, HasForm}
-use Rattle.tptp_lexer.specs.Cuts.{IsWhite, IsLineComment, EndsLine, HoldsClose, IsBlockComment, IsBlank}
+use Rattle.tptp_lexer.specs.Forms.{IsWordOf, IsLower, IsQuotedBy, is_mark, HasForm}
+use Rattle.tptp_lexer.specs.Cuts.{HoldsClose, IsBlank}
 use Rattle.tptp_lexer.specs.declared.piece.Flaw.{Flaw}
 use Rattle.tptp_lexer.specs.declared.piece.Piece.{Piece}
 use Rattle.tptp_lexer.specs.declared.piece.Piece.TheVariants.{Blank, Lexeme, Fault, End}
 use Rattle.tptp_lexer.specs.declared.token.TokenKind.{TokenKind}
-use Rattle.tptp_lexer.specs.declared.token.TokenKind.TheVariants.{Lower, Upper, Quoted, Distinct, Dollar, Number, NotEqual, Punct}
+use Rattle.tptp_lexer.specs.declared.token.TokenKind.TheVariants.{Quoted, Distinct, Dollar, NotEqual, Punct}
 use Rattle.tptp_lexer.specs.declared.token.LexKind.{LexKind}
 use Rattle.tptp_lexer.specs.declared.token.LexKind.TheVariants.{BadByte, OpenQuote, BadEscape, OpenComment}
 use Rattle.tptp_lexer.proofs.Runs.{each-run}
 use Rattle.tptp_lexer.proofs.NumberForms.{number-form}
-use Rattle.tptp_lexer.proofs.QuoteForms.{IsInside, inside-form, first_flaw-kind}
+use Rattle.tptp_lexer.proofs.QuoteForms.{inside-form, first_flaw-kind}
 use Rattle.tptp_lexer.proofs.CommentForms.{line-ends, before_close-first, before_close-none}
 
 -- an open comment is one

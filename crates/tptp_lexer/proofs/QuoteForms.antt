@@ -1,7 +1,7 @@
 -- A quoted form as it is scanned has its form, and a form is scanned to its end.
-use Rattle.std.proofs.Common.{◌≡◌, ◌⊎◌, inl, inr, ℕ, zero, suc, ◌+◌, ◌≤◌, ◌<◌, Bool, true, false, true≢false, cond, not, ◌==◌, ◌&&◌, ◌||◌, List, [], ◌∷◌, ◌++◌, length, take, drop, Option, Some, None, refl, ap, sym, subst, ◌∙◌, arith, append_assoc}
+use Rattle.std.proofs.Common.{◌≡◌, ◌⊎◌, inl, inr, ℕ, suc, Bool, true, false, true≢false, cond, not, ◌==◌, ◌&&◌, ◌||◌, List, [], ◌∷◌, ◌++◌, length, take, Option, Some, None, refl, ap, sym, subst, arith}
 use Rattle.std.specs.Option.{option_map}
-use Rattle.std.proofs.lemmas.Bool.{and_parts, and_cases, or_cases, or_from, or_parts, eqb-true, not-true, not-false, cond-true, cond-false, and_right, and_left, eq-eqb, not_from_true}
+use Rattle.std.proofs.lemmas.Bool.{and_parts, or_cases, or_from, or_parts, eqb-true, not-false, and_right, and_left, eq-eqb, not_from_true}
 use Rattle.std.proofs.lemmas.Bool.Decides.{nat_tests}
 use Rattle.tptp_lexer.specs.Bytes.{is_line_end, is_printable, begins}
 use Rattle.tptp_lexer.specs.Quotes.{before_quote, is_escaped, first_flaw, one_later}

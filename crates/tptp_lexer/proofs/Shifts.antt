@@ -1,5 +1,5 @@
 -- An answer about what is left of a list, seen from its front.
-use Rattle.std.proofs.Common.{◌≡◌, ℕ, ◌+◌, suc, Option, Some, None, refl, ap, sym, ◌∙◌, arith}
+use Rattle.std.proofs.Common.{◌≡◌, ℕ, ◌+◌, suc, Option, Some, None, refl, arith}
 use Rattle.std.specs.Option.{option_map}
 use Rattle.tptp_lexer.specs.Quotes.{one_later}
 use Rattle.tptp_lexer.specs.declared.piece.Flaw.{Flaw}

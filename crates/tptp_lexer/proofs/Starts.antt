@@ -1,6 +1,6 @@
 -- The cursor at the front of a text.
-use Rattle.std.proofs.Common.{◌≡◌, ℕ, List, length, drop, sym, ap, ◌∙◌, arith}
-use Rattle.tptp_lexer.specs.Spots.{first_spot, IsPlace}
+use Rattle.std.proofs.Common.{◌≡◌, ℕ, List, sym, ap, arith}
+use Rattle.tptp_lexer.specs.Spots.{first_spot}
 use Rattle.tptp_lexer.specs.Tokens.{lexed_from, tokens_of, left_of, start_cursor, IsAt}
 use Rattle.tptp_lexer.proofs.Places.{passed-nil}
 

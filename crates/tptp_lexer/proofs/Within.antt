@@ -1,19 +1,18 @@
 -- Each piece is a part of the text that it begins.
-use Rattle.std.proofs.Common.{◌≡◌, ℕ, suc, ◌+◌, ◌-◌, ◌≤◌, ◌<◌, Bool, true, false, cond, ◌==◌, nat_lt, Option, Some, None, List, [], ◌∷◌, length, take, drop, refl, ap, sym, arith, length-drop, length-take}
-use Rattle.std.specs.List.{prefix_len}
+use Rattle.std.proofs.Common.{◌≡◌, ℕ, suc, ◌+◌, ◌≤◌, ◌<◌, false, ◌==◌, Option, Some, None, List, [], ◌∷◌, length, take, drop, refl, arith, length-drop, length-take}
 use Rattle.std.proofs.lemmas.Bool.{cond_both}
 use Rattle.std.proofs.lemmas.Bool.Decides.{nat_tests}
-use Rattle.tptp_lexer.specs.Bytes.{is_white, is_lower, is_upper, is_word, is_visible, begins}
-use Rattle.tptp_lexer.specs.Comments.{line_len, before_close}
+use Rattle.tptp_lexer.specs.Bytes.{is_white, is_lower, is_upper, is_visible, begins}
+use Rattle.tptp_lexer.specs.Comments.{before_close}
 use Rattle.tptp_lexer.specs.Quotes.{before_quote, first_flaw}
-use Rattle.tptp_lexer.specs.Numbers.{starts_number, number_rest_len}
+use Rattle.tptp_lexer.specs.Numbers.{starts_number}
 use Rattle.tptp_lexer.specs.Pieces.{block_piece, slash_piece, closed_piece, quoted_piece_by, quoted_piece, name_len, named_piece, dollar_piece, bang_piece, mark_piece, piece_from, piece_of}
 use Rattle.tptp_lexer.specs.declared.piece.Flaw.{Flaw}
 use Rattle.tptp_lexer.specs.declared.piece.Piece.{Piece}
 use Rattle.tptp_lexer.specs.declared.piece.Piece.TheVariants.{Blank, Lexeme, Fault, End}
 use Rattle.tptp_lexer.specs.declared.token.TokenKind.{TokenKind}
-use Rattle.tptp_lexer.specs.declared.token.TokenKind.TheVariants.{Lower, Upper, Quoted, Distinct, Dollar, Number, NotEqual, Punct}
-use Rattle.tptp_lexer.specs.declared.token.LexKind.TheVariants.{BadByte, OpenQuote, OpenComment}
+use Rattle.tptp_lexer.specs.declared.token.TokenKind.TheVariants.{Quoted, Distinct, Dollar, NotEqual, Punct}
+use Rattle.tptp_lexer.specs.declared.token.LexKind.TheVariants.{BadByte}
 use Rattle.tptp_lexer.proofs.Lengths.{word_len-le, line_len-le, number_rest_len-le, name_len-le, before_close-le, before_quote-le, first_flaw-lt, begins_some}
 
 -- the piece has at least one byte, and no more than this many

@@ -1,5 +1,5 @@
 -- The classes of bytes that tokens are made of.
-use Rattle.std.specs.Prelude.{ℕ, Bool, true, false, List, [], ◌∷◌, ◌==◌, nat_le, ◌&&◌, ◌||◌, not}
+use Rattle.std.specs.Prelude.{ℕ, Bool, false, List, [], ◌∷◌, ◌==◌, nat_le, ◌&&◌, ◌||◌, not}
 
 -- the byte is from the first to the last of these
 abbrev pub is_between : ℕ → ℕ → ℕ → Bool

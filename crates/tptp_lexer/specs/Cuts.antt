@@ -1,5 +1,5 @@
 -- A text as passed-over text and tokens in turn.
-use Rattle.std.specs.Prelude.{◌≡◌, ◌≢◌, ◌⊎◌, ℕ, ◌+◌, Bool, true, false, List, [], ◌∷◌, ◌++◌, Option, Some, None, length}
+use Rattle.std.specs.Prelude.{◌≡◌, ◌≢◌, ◌⊎◌, ℕ, ◌+◌, true, List, [], ◌∷◌, ◌++◌, Option, Some, None, length}
 use Rattle.std.specs.List.{concat}
 use Rattle.tptp_lexer.specs.Bytes.{is_white, is_in_line}
 use Rattle.tptp_lexer.specs.Forms.{Each, HasForm, IsToken}

@@ -8,3 +8,4 @@ pub mod Tokens
 pub mod Reading
 pub mod Forms
 pub mod Cuts
+pub mod Lines

@@ -1,5 +1,5 @@
 -- The piece that a text begins with: white space, a comment, a token, a fault or the end.
-use Rattle.std.specs.Prelude.{ℕ, ◌+◌, Bool, true, false, List, [], ◌∷◌, Option, Some, None, take, drop, ◌==◌, if◌then◌else◌}
+use Rattle.std.specs.Prelude.{ℕ, ◌+◌, false, List, [], ◌∷◌, Option, Some, None, take, drop, ◌==◌, if◌then◌else◌}
 use Rattle.std.specs.List.{prefix_len}
 use Rattle.tptp_lexer.specs.Bytes.{is_white, is_lower, is_upper, is_word, is_visible, begins}
 use Rattle.tptp_lexer.specs.Comments.{line_len, before_close}
@@ -7,7 +7,6 @@ use Rattle.tptp_lexer.specs.Quotes.{before_quote, first_flaw}
 use Rattle.tptp_lexer.specs.Numbers.{starts_number, number_rest_len}
 use Rattle.tptp_lexer.specs.declared.token.TokenKind.{TokenKind}
 use Rattle.tptp_lexer.specs.declared.token.TokenKind.TheVariants.{Lower, Upper, Quoted, Distinct, Dollar, Number, NotEqual, Punct}
-use Rattle.tptp_lexer.specs.declared.token.LexKind.{LexKind}
 use Rattle.tptp_lexer.specs.declared.token.LexKind.TheVariants.{BadByte, OpenQuote, OpenComment}
 use Rattle.tptp_lexer.specs.declared.piece.Flaw.{Flaw}
 use Rattle.tptp_lexer.specs.declared.piece.Piece.{Piece}

@@ -1,4 +1,4 @@
-use Rattle.std.proofs.Common.{sym, subst, ◌∙◌, ap, arith, length}
+use Rattle.std.proofs.Common.{sym, ◌∙◌, arith}
 use Rattle.tptp_lexer.proofs.Stretches.{blank-stretch, piece-bounds, stretch-roomy, stretch-place, stretch-blank}
 use Rattle.tptp_lexer.specs.declared.piece.Piece.TheVariants.{Blank}
 use Rattle.tptp_lexer.proofs.cursor.solid_piece.Goals as goal

@@ -1,4 +1,4 @@
-use Rattle.std.proofs.Common.{◌≡◌, ◌-◌, ◌≤◌, length}
+use Rattle.std.proofs.Common.{◌≡◌, ◌-◌, length}
 use Rattle.tptp_lexer.specs.Spots.{IsPlace}
 use Rattle.tptp_lexer.specs.Tokens.{lexed_at}
 use Rattle.tptp_lexer.proofs.cursor.solid_piece.Given as goal

@@ -1,6 +1,5 @@
 use Rattle.std.proofs.Common.{◌≡◌, ◌+◌, ◌≤◌, drop}
 use Rattle.tptp_lexer.specs.Spots.{passed}
-use Rattle.tptp_lexer.proofs.Places.{IsBehind}
 use Rattle.tptp_lexer.proofs.spot.pass.Given as goal
 
 abbrev pub invariant-loop-b : goal.invariant-loop-b

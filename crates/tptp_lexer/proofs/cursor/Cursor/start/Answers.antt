@@ -1,4 +1,4 @@
-use Rattle.std.proofs.Common.{◌≡◌, None, ap, sym, subst, ◌∙◌}
+use Rattle.std.proofs.Common.{None, ap, sym, subst, ◌∙◌}
 use Rattle.tptp_lexer.specs.Tokens.{IsAt, left_of}
 use Rattle.tptp_lexer.proofs.Starts.{IsAt-start, left_of-start}
 use Rattle.tptp_lexer.proofs.cursor.Cursor.start.Goals as goal
