@@ -1,3 +1,4 @@
+-- The lemmas of the scans, and of the laws beside them.
 pub mod Lengths
 pub mod Shifts
 pub mod Steps

@@ -3,13 +3,15 @@ use Rattle.std.proofs.Common.{◌≡◌, ℕ, ◌+◌, ◌-◌, ◌≤◌, Some,
 use Rattle.std.proofs.lemmas.List.{drop-drop}
 use Rattle.tptp_lexer.specs.Pieces.{piece_of}
 use Rattle.tptp_lexer.specs.Spots.{first_spot, passed, spot_at, IsPlace}
-use Rattle.tptp_lexer.specs.Tokens.{token_of, preceded_by, fault_at, lexed_from, lexed_at, IsTokenIn}
+use Rattle.tptp_lexer.specs.Tokens.{token_of, preceded_by, fault_at, lexed_from, lexed_at, text_of, IsTokenIn}
 use Rattle.tptp_lexer.specs.declared.token.Token.{Token}
 use Rattle.tptp_lexer.specs.declared.piece.Piece.{Piece}
 use Rattle.tptp_lexer.specs.declared.piece.Piece.TheVariants.{Blank, Lexeme, Fault, End}
 use Rattle.tptp_lexer.specs.declared.spot.Spot.{Spot}
 use Rattle.tptp_lexer.specs.declared.token.TokenKind.{TokenKind}
 use Rattle.tptp_lexer.specs.declared.token.LexKind.{LexKind}
+use Rattle.tptp_lexer.specs.Forms.{HasForm}
+use Rattle.tptp_lexer.proofs.PieceForms.{IsRight, piece-right}
 use Rattle.tptp_lexer.proofs.Within.{IsWithin, piece-within}
 use Rattle.tptp_lexer.proofs.Places.{IsBehind, passed-behind, spot_at-behind, spot_at-more}
 use Rattle.tptp_lexer.proofs.Lexing.{behind, preceded, lexed_from-blank, lexed_from-lexeme, lexed_from-fault, lexed_from-end}
@@ -108,7 +110,17 @@ stretch-token bytes spot rest text n s kind piece token e =
     let bounds = piece-bounds rest (Lexeme kind n) piece in
     let start : token.start ≡ spot.offset = ap (λ t. t.start) e in
     let stop : token.end ≡ spot.offset + length text = ap (λ t. t.end) e in
-    record { some = omega (arith, room.size, bounds.0, start, stop); within = omega (arith, room.offset, stop) }
+    let size : token.end - token.start ≡ n = omega (arith, start, stop, room.size) in
+    let same : text_of bytes token ≡ text =
+    ap (λ m. take m (drop token.start bytes)) size ∙ ap (λ m. take n (drop m bytes)) start ∙ ap (take n) (sym s.rest_is) ∙ sym s.text_is in
+    let of_kind : token.kind ≡ kind = ap (λ t. t.kind) e in
+    let right : HasForm kind (take n rest) = subst (IsRight rest) (sym piece) (piece-right rest) in
+    record {
+      some = omega (arith, room.size, bounds.0, start, stop);
+      within = omega (arith, room.offset, stop);
+      form = rw (same, of_kind, s.text_is) right;
+      plain = rw (same, of_kind) (ap (λ t. t.plain) e);
+    }
 
 pub stretch-fault : (bytes : List ℕ) (spot : Spot) (rest text : List ℕ) (n : ℕ) → IsStretch bytes spot rest text n → (kind : LexKind) → Fault kind n ≡ piece_of rest
     → lexed_at bytes spot.offset ≡ record { tokens = []; fault = Some (fault_at kind (passed spot text)) }

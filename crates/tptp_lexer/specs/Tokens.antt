@@ -1,5 +1,6 @@
 -- The tokens of a text, and the end or the fault behind them.
-use Rattle.std.specs.Prelude.{◌≡◌, ℕ, zero, suc, ◌+◌, ◌-◌, ◌<◌, ◌≤◌, Bool, false, List, [], ◌∷◌, Option, Some, None, Result, Ok, Err, length, take, drop}
+use Rattle.std.specs.Prelude.{◌≡◌, ℕ, zero, suc, ◌+◌, ◌-◌, ◌<◌, ◌≤◌, Bool, false, List, [], ◌∷◌, Option, Some, None, Result, Ok, Err, length, take, drop, slice_range}
+use Rattle.tptp_lexer.specs.Forms.{HasForm}
 use Rattle.tptp_lexer.specs.Numbers.{is_plain}
 use Rattle.tptp_lexer.specs.Pieces.{piece_of}
 use Rattle.tptp_lexer.specs.Spots.{first_spot, past, passed, spot_at, IsPlace}
@@ -90,7 +91,13 @@ pub record IsAt (bytes : List ℕ) (cursor : Cursor) : Type 0 where
   pub placed : IsPlace bytes cursor.spot
   pub standing : (fault : LexFault) → cursor.fault ≡ Some fault → left_of bytes cursor ≡ record { tokens = []; fault = Some fault }
 
--- the token has a text in these bytes
+-- the text of a token of these bytes
+abbrev pub text_of : List ℕ → Token → List ℕ
+text_of bytes token = slice_range bytes token.start token.end
+
+-- the token has a text in these bytes, with the form of its kind
 pub record IsTokenIn (bytes : List ℕ) (token : Token) : Type 0 where
   pub some : token.start < token.end
   pub within : token.end ≤ length bytes
+  pub form : HasForm token.kind (text_of bytes token)
+  pub plain : token.plain ≡ plain_of token.kind (text_of bytes token)

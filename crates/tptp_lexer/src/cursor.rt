@@ -61,7 +61,7 @@ fn take_token(bytes: &[u8], spot: &mut Spot, kind: TokenKind, n: usize) -> Token
     requires piece { Lexeme kind n ≡ piece_at_front (drop spot.old.offset bytes.now) }
     ensures placed { IsPlace bytes.now spot.new }
     ensures left { lexed_at bytes.now spot.old.offset ≡ preceded_by result (lexed_at bytes.now spot.new.offset) }
-    ensures within { IsTokenIn bytes.now result }
+    ensures token { IsTokenIn bytes.now result }
 {
     let text = front(skip(bytes, spot.offset as usize), n);
     let token = token_at(*spot, kind, text);
@@ -92,7 +92,7 @@ pub fn next_token(bytes: &[u8], cursor: &mut Cursor) -> Result<Option<Token>, Le
     ensures answer { result ≡ first_of (left_of bytes.now cursor.old) }
     ensures at { IsAt bytes.now cursor.new }
     ensures left { left_of bytes.now cursor.new ≡ rest_of (left_of bytes.now cursor.old) }
-    ensures within { IfOk result (λ found. IfSome found (IsTokenIn bytes.now)) }
+    ensures token { IfOk result (λ found. IfSome found (IsTokenIn bytes.now)) }
 {
     if let Some(fault) = cursor.fault {
         return Err(fault);

@@ -1,7 +1,7 @@
 //! The tokens of a text, one after the other.
 
-ghost use Rattle.std.specs.Prelude.{◌≡◌, ◌≤◌, length, slice_range, IfOk, IfSome};
-ghost use Rattle.tptp_lexer.specs.Tokens.{tokens_of, first_of, rest_of, IsTokenIn};
+ghost use Rattle.std.specs.Prelude.{◌≡◌, ◌≤◌, length, IfOk, IfSome};
+ghost use Rattle.tptp_lexer.specs.Tokens.{tokens_of, first_of, rest_of, text_of, IsTokenIn};
 
 use crate::cursor::{Cursor, next_token};
 use crate::token::{LexFault, Token};
@@ -45,7 +45,7 @@ impl<'a> Lexer<'a> {
         ensures answer { result ≡ first_of self.old.left }
         ensures left { self.new.left ≡ rest_of self.old.left }
         ensures bytes { self.new.bytes ≡ self.old.bytes }
-        ensures within { IfOk result (λ found. IfSome found (IsTokenIn self.old.bytes)) }
+        ensures token { IfOk result (λ found. IfSome found (IsTokenIn self.old.bytes)) }
     {
         next_token(self.bytes, &mut self.cursor)
     }
@@ -54,7 +54,7 @@ impl<'a> Lexer<'a> {
     pub fn text(&self, token: &Token) -> &'a [u8]
         requires ordered { token.now.start ≤ token.now.end }
         requires within { token.now.end ≤ length self.now.bytes }
-        ensures { result.now ≡ slice_range self.now.bytes token.now.start token.now.end }
+        ensures { result.now ≡ text_of self.now.bytes token.now }
     {
         &self.bytes[token.start as usize..token.end as usize]
     }

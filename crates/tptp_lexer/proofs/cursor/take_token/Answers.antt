@@ -33,7 +33,7 @@ returns-clause-left c =
     stretch-lexeme c.args.bytes.now c.args.spot.now c.skip.result.now c.front-text.result.now c.args.n (lexeme-stretch c.args.bytes.now c.args.spot.now c.skip.result.now c.front-text.result.now c.args.n c.requires.placed c.skip.ensures c.front-text.ensures c.args.kind same) c.pass.result c.pass.ensures c.args.kind same
     ∙ ap (λ token. preceded_by token (lexed_at c.args.bytes.now c.pass.result.offset)) (sym c.token_at-token.ensures)
 
-pub returns-clause-within : goal.returns-clause-within
-returns-clause-within c =
+pub returns-clause-token : goal.returns-clause-token
+returns-clause-token c =
     let same = subst (λ l. Lexeme c.args.kind c.args.n ≡ piece_of l) (sym c.skip.ensures) c.requires.piece in
     stretch-token c.args.bytes.now c.args.spot.now c.skip.result.now c.front-text.result.now c.args.n (lexeme-stretch c.args.bytes.now c.args.spot.now c.skip.result.now c.front-text.result.now c.args.n c.requires.placed c.skip.ensures c.front-text.ensures c.args.kind same) c.args.kind same c.token_at-token.result c.token_at-token.ensures
