@@ -16,3 +16,5 @@ pub mod NumberBounds
 pub mod PieceBounds
 pub mod CutLaw
 pub mod LineLaw
+pub mod FaultForms
+pub mod FaultPieces

@@ -8,7 +8,9 @@ use Rattle.tptp_lexer.specs.Pieces.{piece_of}
 use Rattle.tptp_lexer.specs.Spots.{first_spot, past, passed, spot_at, IsPlace}
 use Rattle.tptp_lexer.specs.Tokens.{Lexed, lexed_at, tokens_of}
 use Rattle.tptp_lexer.specs.Forms.{Each}
-use Rattle.tptp_lexer.specs.Lines.{IsPlaceBehind, ArePlaced, IsFaultPlaced}
+use Rattle.tptp_lexer.specs.Lines.{IsPlaceBehind, ArePlaced}
+use Rattle.tptp_lexer.specs.Faults.{FaultStands, IsFaultOf}
+use Rattle.tptp_lexer.proofs.FaultPieces.{IsFaulty, piece-faulty}
 use Rattle.tptp_lexer.specs.declared.piece.Piece.{Piece}
 use Rattle.tptp_lexer.specs.declared.piece.Piece.TheVariants.{Blank, Lexeme, Fault, End}
 use Rattle.tptp_lexer.specs.declared.spot.Spot.{Spot}
@@ -79,7 +81,7 @@ place-counts bytes spot placed = subst (IsSpotBehind (take spot.offset bytes)) (
 
 -- the tokens and the fault are where they are said to be
 abbrev pub IsAllPlaced : List ℕ → Lexed → Type 0
-IsAllPlaced bytes lexed = ArePlaced bytes lexed.tokens × IsFaultPlaced bytes lexed.fault
+IsAllPlaced bytes lexed = ArePlaced bytes lexed.tokens × IsFaultOf bytes lexed.fault
 
 stretch-of : (bytes : List ℕ) (spot : Spot) (n : ℕ) → IsPlace bytes spot → n ≤ length (drop spot.offset bytes) → IsStretch bytes spot (drop spot.offset bytes) (take n (drop spot.offset bytes)) n
 stretch-of bytes spot n placed fits = record { placed = placed; rest_is = refl; text_is = refl; fits = fits }
@@ -94,9 +96,10 @@ fault-placed bytes spot kind n placed piece below =
     let rest = drop spot.offset bytes in
     let stretch = stretch-of bytes spot n placed (omega (arith, below)) in
     let there = stretch-place bytes spot rest (take n rest) n stretch (next_spot bytes spot n) refl in
-    let inside : (next_spot bytes spot n).offset < length bytes = omega (arith, there.0, below, length-drop spot.offset bytes) in
+    let inside : spot.offset + n < length bytes = omega (arith, below, length-drop spot.offset bytes) in
+    let stands : FaultStands kind rest n = subst (IsFaulty rest) piece (piece-faulty rest) in
     subst (IsAllPlaced bytes) (sym (stretch-fault bytes spot rest (take n rest) n stretch kind (sym piece)))
-    (tt, ((next_spot bytes spot n).offset, inside, place-counts bytes (next_spot bytes spot n) there.1))
+    (tt, (spot.offset, n, stands, inside, subst (λ m. IsSpotBehind (take m bytes) (next_spot bytes spot n)) there.0 (place-counts bytes (next_spot bytes spot n) there.1)))
 
 all-placed : (size : ℕ) (bytes : List ℕ) (spot : Spot) → IsPlace bytes spot → length (drop spot.offset bytes) < size → IsAllPlaced bytes (lexed_at bytes spot.offset)
 all-placed zero bytes spot placed le = absurd (omega arith)

@@ -120,7 +120,7 @@ quoted-bound kind quote items more mark prints good =
 form-size : (quote : ℕ) (items : List Item) → length (quote ∷ (bytes_of items ++ quote ∷ [])) ≡ 2 + length (bytes_of items)
 form-size quote items = omega (arith, length-append (bytes_of items) (quote ∷ []))
 
-printable-quotes : (is_printable 39 ≡ true) × (is_printable 34 ≡ true)
+pub printable-quotes : (is_printable 39 ≡ true) × (is_printable 34 ≡ true)
 unfolding is_printable
 printable-quotes = (refl, refl)
 

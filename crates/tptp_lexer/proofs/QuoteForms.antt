@@ -74,7 +74,7 @@ add_escaped quote c bs n q inside = record {
   closed = ap (λ l. 92 ∷ c ∷ l) inside.closed;
 }
 
-and_true : (x : Bool) → x && true ≡ false → x ≡ false
+pub and_true : (x : Bool) → x && true ≡ false → x ≡ false
 and_true true e = absurd (true≢false e)
 and_true false e = refl
 
@@ -152,7 +152,7 @@ pub double : IsQuoteMark 34
 unfolding is_line_end
 double = record { line = refl; other = refl }
 
-before_quote-next : (quote : ℕ) (paired : Bool) (b : ℕ) (bs : List ℕ) (n : ℕ) (next : Bool) → is_line_end b ≡ false → b == quote && not paired ≡ false → b == 92 && not paired ≡ next
+pub before_quote-next : (quote : ℕ) (paired : Bool) (b : ℕ) (bs : List ℕ) (n : ℕ) (next : Bool) → is_line_end b ≡ false → b == quote && not paired ≡ false → b == 92 && not paired ≡ next
     → before_quote quote next bs ≡ Some n → before_quote quote paired (b ∷ bs) ≡ Some (suc n)
 unfolding before_quote
 before_quote-next quote paired b bs n next line at pairs later = rw (line, at, pairs, later) refl
@@ -161,7 +161,7 @@ printable-stays : (b : ℕ) → is_printable b ≡ true → is_line_end b ≡ fa
 unfolding is_printable is_line_end
 printable-stays b e = grind (arith, nat_tests)
 
-backslash-stays : is_line_end 92 ≡ false
+pub backslash-stays : is_line_end 92 ≡ false
 unfolding is_line_end
 backslash-stays = refl
 
@@ -194,7 +194,7 @@ backslash-prints : is_printable 92 ≡ true
 unfolding is_printable
 backslash-prints = refl
 
-escaped-prints : (quote b : ℕ) → is_printable quote ≡ true → (b == quote ≡ true) ⊎ (b == 92 ≡ true) → is_printable b ≡ true
+pub escaped-prints : (quote b : ℕ) → is_printable quote ≡ true → (b == quote ≡ true) ⊎ (b == 92 ≡ true) → is_printable b ≡ true
 escaped-prints quote b prints (inl e) = subst (λ x. is_printable x ≡ true) (sym (eqb-true b quote e)) prints
 escaped-prints quote b prints (inr e) = subst (λ x. is_printable x ≡ true) (sym (eqb-true b 92 e)) backslash-prints
 

@@ -22,3 +22,5 @@ pub mod Forms
 pub mod Cuts
 -- lines and columns, without a scan
 pub mod Lines
+-- where faults stand, without a scan
+pub mod Faults

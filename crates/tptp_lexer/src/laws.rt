@@ -3,7 +3,8 @@
 
 ghost use Rattle.std.specs.Prelude.{◌≤◌, ℕ, List, length};
 ghost use Rattle.tptp_lexer.specs.Cuts.{IsCut};
-ghost use Rattle.tptp_lexer.specs.Lines.{ArePlaced, IsFaultPlaced};
+ghost use Rattle.tptp_lexer.specs.Faults.{IsFaultOf};
+ghost use Rattle.tptp_lexer.specs.Lines.{ArePlaced};
 ghost use Rattle.tptp_lexer.specs.Tokens.{tokens_of};
 
 /// Each text is, in turn, white space and comments, and the texts of its tokens, up to its end or its fault. Each
@@ -13,9 +14,9 @@ pub fn tokens_cut_the_text()
     ensures few { (bytes : List ℕ) → length (tokens_of bytes).tokens ≤ length bytes }
 {}
 
-/// Each token, and the fault, stands at its line and column: lines and columns count from 1, a line feed ends a line,
-/// and columns count bytes.
+/// Each token stands at its line and column: lines and columns count from 1, a line feed ends a line, and columns
+/// count bytes. A fault stands where its kind says, and at its line and column.
 pub fn tokens_stand_at_their_places()
     ensures tokens { (bytes : List ℕ) → ArePlaced bytes (tokens_of bytes).tokens }
-    ensures fault { (bytes : List ℕ) → IsFaultPlaced bytes (tokens_of bytes).fault }
+    ensures fault { (bytes : List ℕ) → IsFaultOf bytes (tokens_of bytes).fault }
 {}
