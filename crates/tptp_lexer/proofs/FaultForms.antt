@@ -1,14 +1,14 @@
 -- A fault as it is found stands where the table says.
 use Rattle.std.proofs.Common.{◌≡◌, ◌⊎◌, inl, inr, ℕ, suc, Bool, true, false, true≢false, cond, not, ◌==◌, ◌&&◌, ◌||◌, List, [], ◌∷◌, ◌++◌, length, take, Option, Some, None, refl, ap, sym, subst, ◌∙◌}
 use Rattle.std.specs.Option.{option_map}
-use Rattle.std.proofs.lemmas.Bool.{and_parts, or_from, or_parts, eqb-true, eq-eqb, not-true, not-false, and_left, and_right, or_cases}
+use Rattle.std.proofs.lemmas.Bool.{and_parts, or_from, eqb-true, not-true, not-false, and_right, or_cases}
 use Rattle.tptp_lexer.specs.Bytes.{is_line_end, is_printable, begins}
 use Rattle.tptp_lexer.specs.Quotes.{before_quote, is_escaped, first_flaw, one_later}
 use Rattle.tptp_lexer.specs.Forms.{Item, plain, escaped, bytes_of, AreItems}
-use Rattle.tptp_lexer.specs.Faults.{ArePairs, IsClosed, IsBad}
+use Rattle.tptp_lexer.specs.Faults.{IsClosed, IsBad}
 use Rattle.tptp_lexer.specs.declared.piece.Flaw.{Flaw}
 use Rattle.tptp_lexer.specs.declared.token.LexKind.TheVariants.{BadByte, BadEscape}
-use Rattle.tptp_lexer.proofs.QuoteForms.{NotYet, before_quote-cases, IsQuoteMark, before_quote-next, backslash-stays, and_true, escaped-prints}
+use Rattle.tptp_lexer.proofs.QuoteForms.{NotYet, before_quote-cases, and_true, escaped-prints}
 
 -- a byte before the close is no line end
 before_quote-stays : (quote : ℕ) (paired : Bool) (b : ℕ) (bs : List ℕ) (n : ℕ) → before_quote quote paired (b ∷ bs) ≡ Some n → is_line_end b ≡ false
@@ -65,19 +65,6 @@ before_quote-closed quote (b ∷ c ∷ bs) n e =
                   (before_quote-stays quote true c bs yet.less found, closed.2),
                   ap (λ x. x ∷ c ∷ bs) (eqb-true b 92 is) ∙ ap (λ l. 92 ∷ c ∷ l) closed.3,
                 )
-
--- where there is a close, it is found
-pub closed-before_quote : (quote : ℕ) (items : List Item) (rest : List ℕ) → IsQuoteMark quote → ArePairs quote items → before_quote quote false (bytes_of items ++ quote ∷ rest) ≡ Some (length (bytes_of items))
-unfolding before_quote
-closed-before_quote quote [] rest mark pairs = rw (mark.line, eq-eqb quote quote refl) refl
-closed-before_quote quote (plain b ∷ items) rest mark pairs =
-    let apart = or_parts (b == quote) (b == 92) pairs.1 in
-    before_quote-next quote false b (bytes_of items ++ quote ∷ rest) (length (bytes_of items)) false pairs.0 (and_left (b == quote) true apart.0) (and_left (b == 92) true apart.1)
-    (closed-before_quote quote items rest mark pairs.2)
-closed-before_quote quote (escaped c ∷ items) rest mark pairs =
-    let later = closed-before_quote quote items rest mark pairs.1 in
-    let second = before_quote-next quote true c (bytes_of items ++ quote ∷ rest) (length (bytes_of items)) false pairs.0 (and_right (c == quote) false refl) (and_right (c == 92) false refl) later in
-    before_quote-next quote false 92 (c ∷ (bytes_of items ++ quote ∷ rest)) (suc (length (bytes_of items))) true backslash-stays (and_left (92 == quote) true mark.other) refl second
 
 -- the first flaw, with what is good before it
 pub record FlawAt (quote : ℕ) (bytes : List ℕ) (flaw : Flaw) : Type 0 where

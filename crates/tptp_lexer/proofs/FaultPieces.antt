@@ -15,9 +15,9 @@ use Rattle.tptp_lexer.specs.declared.token.TokenKind.{TokenKind}
 use Rattle.tptp_lexer.specs.declared.token.TokenKind.TheVariants.{Quoted, Distinct, Dollar, NotEqual, Punct}
 use Rattle.tptp_lexer.specs.declared.token.LexKind.{LexKind}
 use Rattle.tptp_lexer.specs.declared.token.LexKind.TheVariants.{BadByte, OpenQuote, BadEscape, OpenComment}
-use Rattle.tptp_lexer.proofs.QuoteForms.{IsQuoteMark, single, double}
+use Rattle.tptp_lexer.proofs.QuoteForms.{IsQuoteMark, single, double, closed-before_quote}
 use Rattle.tptp_lexer.proofs.CommentForms.{before_close-none}
-use Rattle.tptp_lexer.proofs.FaultForms.{flaw-form, before_quote-closed, closed-before_quote}
+use Rattle.tptp_lexer.proofs.FaultForms.{flaw-form, before_quote-closed}
 use Rattle.tptp_lexer.proofs.PieceBounds.{printable-quotes}
 
 -- where the piece is a fault, it stands there

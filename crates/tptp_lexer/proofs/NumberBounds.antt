@@ -1,12 +1,12 @@
 -- A number is scanned to its end.
-use Rattle.std.proofs.Common.{◌≡◌, ◌⊎◌, inl, inr, ℕ, zero, suc, ◌+◌, ◌≤◌, ◌<◌, true, false, ◌==◌, ◌&&◌, nat_lt, List, [], ◌∷◌, ◌++◌, length, drop, refl, ap, sym, subst, ◌∙◌, arith, length-append, append_assoc}
+use Rattle.std.proofs.Common.{◌≡◌, ◌⊎◌, inl, inr, ℕ, suc, ◌+◌, ◌≤◌, ◌<◌, true, false, ◌==◌, ◌&&◌, nat_lt, List, [], ◌∷◌, ◌++◌, length, drop, refl, ap, sym, subst, ◌∙◌, arith, length-append, append_assoc}
 use Rattle.std.proofs.lemmas.Bool.{and_from, or_left, or_right, lt-ltb, eq-eqb}
 use Rattle.std.proofs.lemmas.Bool.Decides.{nat_tests}
 use Rattle.std.proofs.lemmas.List.{drop_at}
 use Rattle.tptp_lexer.specs.Bytes.{is_digit, is_sign, is_exponent_mark, begins}
 use Rattle.tptp_lexer.specs.Numbers.{marked_len, starts_number, signed_len, exponent_len, decimal_len, number_tail_len, number_rest_len}
 use Rattle.tptp_lexer.specs.Forms.{Each, IsDigits, IsSigned, IsFraction, IsExponent, IsNumber}
-use Rattle.tptp_lexer.proofs.Runs.{run-least, run-exact}
+use Rattle.tptp_lexer.proofs.Runs.{run-least, run-exact, none_or_some}
 
 digits-begin : (digits more : List ℕ) → IsDigits digits → begins is_digit (digits ++ more) ≡ true
 digits-begin [] more form = absurd form
@@ -102,10 +102,6 @@ unfolding is_digit
 tail-begins [] [] more form raised some = absurd (omega arith)
 tail-begins [] (x ∷ xs) more form raised some = (exponent-apart x raised.0).0
 tail-begins (b ∷ bs) exponent more form raised some = rw form.0 refl
-
-none_or_some : (n : ℕ) → (n ≡ 0) ⊎ (0 < n)
-none_or_some zero = inl refl
-none_or_some (suc n) = inr (omega arith)
 
 -- a number behind its first byte
 pub record IsLed (text more : List ℕ) : Type 0 where

@@ -1,11 +1,11 @@
 -- A number as it is scanned has the form of a number.
-use Rattle.std.proofs.Common.{◌≡◌, ◌⊎◌, inl, inr, ℕ, zero, suc, ◌+◌, ◌<◌, Bool, true, false, cond, ◌==◌, ◌&&◌, nat_lt, List, [], ◌∷◌, ◌++◌, take, drop, refl, ap, sym, subst, ◌∙◌, arith}
+use Rattle.std.proofs.Common.{◌≡◌, ◌⊎◌, inl, inr, ℕ, suc, ◌+◌, ◌<◌, Bool, true, false, cond, ◌==◌, ◌&&◌, nat_lt, List, [], ◌∷◌, ◌++◌, take, drop, refl, ap, sym, subst, ◌∙◌, arith}
 use Rattle.std.proofs.lemmas.Bool.{and_parts, or_cases, eqb-true, ltb-true, cond_both}
 use Rattle.std.proofs.Math.Seq.{take-add}
 use Rattle.tptp_lexer.specs.Bytes.{is_digit, is_sign, is_exponent_mark, begins}
 use Rattle.tptp_lexer.specs.Numbers.{digits_len, marked_len, starts_number, signed_len, exponent_len, decimal_len, number_tail_len, number_rest_len}
 use Rattle.tptp_lexer.specs.Forms.{IsDigits, IsSigned, IsFraction, IsExponent, IsNumber}
-use Rattle.tptp_lexer.proofs.Runs.{each-run}
+use Rattle.tptp_lexer.proofs.Runs.{each-run, none_or_some}
 
 pub digits-form : (bytes : List ℕ) → begins is_digit bytes ≡ true → IsDigits (take (digits_len bytes) bytes)
 digits-form [] e = cc
@@ -31,10 +31,6 @@ marked-form mark (b ∷ bs) some = by (b == mark && begins is_digit bs) refl som
         let next : 1 + digits_len bs ≡ suc (digits_len bs) = omega arith in
         (take (digits_len bs) bs, digits-form bs parts.1, rw next (ap (λ c. c ∷ take (digits_len bs) bs) (eqb-true b mark parts.0)))
     by false e some = absurd (omega arith)
-
-none_or_some : (n : ℕ) → (n ≡ 0) ⊎ (0 < n)
-none_or_some zero = inl refl
-none_or_some (suc n) = inr (omega arith)
 
 pub fraction-form : (bytes : List ℕ) → IsFraction (take (marked_len 46 bytes) bytes)
 fraction-form bytes = by (none_or_some (marked_len 46 bytes))

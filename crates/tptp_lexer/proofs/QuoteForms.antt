@@ -6,6 +6,7 @@ use Rattle.std.proofs.lemmas.Bool.Decides.{nat_tests}
 use Rattle.tptp_lexer.specs.Bytes.{is_line_end, is_printable, begins}
 use Rattle.tptp_lexer.specs.Quotes.{before_quote, is_escaped, first_flaw, one_later}
 use Rattle.tptp_lexer.specs.Forms.{Item, plain, escaped, bytes_of, AreItems}
+use Rattle.tptp_lexer.specs.Faults.{ArePairs}
 use Rattle.tptp_lexer.specs.declared.piece.Flaw.{Flaw}
 use Rattle.tptp_lexer.specs.declared.token.LexKind.{LexKind}
 use Rattle.tptp_lexer.specs.declared.token.LexKind.TheVariants.{BadByte, BadEscape}
@@ -170,20 +171,29 @@ unfolding is_line_end
 escaped-stays quote b mark (inl e) = subst (λ x. is_line_end x ≡ false) (sym (eqb-true b quote e)) mark.line
 escaped-stays quote b mark (inr e) = subst (λ x. is_line_end x ≡ false) (sym (eqb-true b 92 e)) refl
 
+-- where there is a close, it is found
+pub closed-before_quote : (quote : ℕ) (items : List Item) (rest : List ℕ) → IsQuoteMark quote → ArePairs quote items → before_quote quote false (bytes_of items ++ quote ∷ rest) ≡ Some (length (bytes_of items))
+unfolding before_quote
+closed-before_quote quote [] rest mark pairs = rw (mark.line, eq-eqb quote quote refl) refl
+closed-before_quote quote (plain b ∷ items) rest mark pairs =
+    let apart = or_parts (b == quote) (b == 92) pairs.1 in
+    before_quote-next quote false b (bytes_of items ++ quote ∷ rest) (length (bytes_of items)) false pairs.0 (and_left (b == quote) true apart.0) (and_left (b == 92) true apart.1)
+    (closed-before_quote quote items rest mark pairs.2)
+closed-before_quote quote (escaped c ∷ items) rest mark pairs =
+    let later = closed-before_quote quote items rest mark pairs.1 in
+    let second = before_quote-next quote true c (bytes_of items ++ quote ∷ rest) (length (bytes_of items)) false pairs.0 (and_right (c == quote) false refl) (and_right (c == 92) false refl) later in
+    before_quote-next quote false 92 (c ∷ (bytes_of items ++ quote ∷ rest)) (suc (length (bytes_of items))) true backslash-stays (and_left (92 == quote) true mark.other) refl second
+
+-- the parts of a form are such parts
+items-pairs : (quote : ℕ) (items : List Item) → IsQuoteMark quote → AreItems quote items → ArePairs quote items
+items-pairs quote [] mark good = tt
+items-pairs quote (plain b ∷ items) mark good = (printable-stays b good.0, good.1, items-pairs quote items mark good.2)
+items-pairs quote (escaped c ∷ items) mark good = (escaped-stays quote c mark (or_cases (c == quote) (c == 92) good.0), items-pairs quote items mark good.1)
+
 -- the close of a form is found where it is
 pub before_quote-items : (quote : ℕ) (items : List Item) (more : List ℕ) → IsQuoteMark quote → AreItems quote items
     → before_quote quote false (bytes_of items ++ quote ∷ more) ≡ Some (length (bytes_of items))
-unfolding before_quote
-before_quote-items quote [] more mark good = rw (mark.line, eq-eqb quote quote refl) refl
-before_quote-items quote (plain b ∷ items) more mark good =
-    let apart = or_parts (b == quote) (b == 92) good.1 in
-    before_quote-next quote false b (bytes_of items ++ quote ∷ more) (length (bytes_of items)) false (printable-stays b good.0) (and_left (b == quote) true apart.0) (and_left (b == 92) true apart.1)
-    (before_quote-items quote items more mark good.2)
-before_quote-items quote (escaped c ∷ items) more mark good =
-    let rest = before_quote-items quote items more mark good.1 in
-    let second = before_quote-next quote true c (bytes_of items ++ quote ∷ more) (length (bytes_of items)) false (escaped-stays quote c mark (or_cases (c == quote) (c == 92) good.0))
-    (and_right (c == quote) false refl) (and_right (c == 92) false refl) rest in
-    before_quote-next quote false 92 (c ∷ (bytes_of items ++ quote ∷ more)) (suc (length (bytes_of items))) true backslash-stays (and_left (92 == quote) true mark.other) refl second
+before_quote-items quote items more mark good = closed-before_quote quote items more mark (items-pairs quote items mark good)
 
 first_flaw-next : (quote : ℕ) (paired : Bool) (b : ℕ) (bs : List ℕ) (next : Bool) → is_printable b ≡ true → b == 92 && not paired && not (begins (is_escaped quote) bs) ≡ false → b == 92 && not paired ≡ next
     → first_flaw quote next bs ≡ None → first_flaw quote paired (b ∷ bs) ≡ None

@@ -1,5 +1,5 @@
 -- Runs of bytes of one class at the front of a text.
-use Rattle.std.proofs.Common.{◌≡◌, ℕ, suc, ◌+◌, ◌≤◌, Bool, true, false, cond, List, [], ◌∷◌, ◌++◌, length, take, drop, refl, arith}
+use Rattle.std.proofs.Common.{◌⊎◌, inl, inr, ◌<◌, zero, ◌≡◌, ℕ, suc, ◌+◌, ◌≤◌, Bool, true, false, cond, List, [], ◌∷◌, ◌++◌, length, take, drop, refl, arith}
 use Rattle.std.specs.List.{prefix_len}
 use Rattle.tptp_lexer.specs.Bytes.{begins}
 use Rattle.tptp_lexer.specs.Forms.{Each}
@@ -29,3 +29,8 @@ module _ (test : ℕ → Bool) where
   run-exact [] [] each ends = refl
   run-exact [] (b ∷ more) each ends = rw ends refl
   run-exact (b ∷ bs) more each ends = rw (each.0, run-exact bs more each.1 ends) (omega arith)
+
+-- a length is 0, or it is not
+pub none_or_some : (n : ℕ) → (n ≡ 0) ⊎ (0 < n)
+none_or_some zero = inl refl
+none_or_some (suc n) = inr (omega arith)
