@@ -4,8 +4,10 @@ pub mod Frames
 pub mod LineFacts
 pub mod Lines
 pub mod Opened
+pub mod Openings
 pub mod Places
 pub mod Refuting
+pub mod SampleFacts
 pub mod Shapes
 pub mod Soundness
 pub mod Truths
