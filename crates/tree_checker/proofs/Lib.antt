@@ -7,7 +7,6 @@ pub mod Opened
 pub mod Openings
 pub mod Places
 pub mod Refuting
-pub mod SampleFacts
 pub mod Shapes
 pub mod Soundness
 pub mod Truths
