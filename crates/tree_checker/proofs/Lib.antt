@@ -1,6 +1,7 @@
 pub mod Blocks
 pub mod FormTruth
 pub mod Frames
+pub mod Larger
 pub mod LineFacts
 pub mod Lines
 pub mod Opened

@@ -1,5 +1,5 @@
 -- The problem of the tests.
-use Rattle.std.specs.Prelude.{◌≡◌, ℕ, Bool, true, false, List, [], ◌∷◌, if◌then◌else◌}
+use Rattle.std.specs.Prelude.{Bool, true, false, [], ◌∷◌, if◌then◌else◌}
 use Rattle.mg_word.specs.Table.{Symbol, symbol_of}
 use Rattle.mg_word.specs.Facts.{ProblemData}
 use Rattle.mg_word.specs.declared.symbol.Kind.TheVariants.{Word}

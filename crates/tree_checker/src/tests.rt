@@ -7,8 +7,8 @@ ghost use Rattle.tree_checker.specs.Samples.{symbol_p, literal_p, clause_p, form
 
 use crate::{Doc, LemmaBlock, Reject, TreeLine, Why, check_doc};
 use mg_word::{
-    Clause, ClauseLit, Form, Item, Items, Kind, Lit, LitSet, Name, NoMemory, PatLit, Pattern, Place,
-    Problem, Subst, Symbols, Text, Word,
+    Clause, ClauseLit, Form, Item, Items, Kind, Lit, LitSet, Name, NoMemory, PatLit, Pattern,
+    Place, Problem, Subst, Symbols, Text, Word,
 };
 use std::alloc::Global;
 use std::test::Fail;
@@ -238,9 +238,18 @@ fn names_the_first_broken_rule(rt: HostRuntime) -> Result<(), Fail> {
     let rows = vec![in alloc;
         (vec![in alloc; form(alloc, 1), form(alloc, 2)]?, Ok(())),
         (vec![in alloc; form(alloc, 2)]?, at_3(Why::Premise)),
-        (vec![in alloc; form_with_term(alloc, 2)?]?, at_3(Why::Substitution)),
-        (vec![in alloc; TreeLine::Clash(p(alloc)?)]?, at_3(Why::NoClash)),
-        (vec![in alloc; TreeLine::Barred(p(alloc)?)]?, at_3(Why::NotBarred)),
+        (
+            vec![in alloc; form_with_term(alloc, 2)?]?,
+            at_3(Why::Substitution)
+        ),
+        (
+            vec![in alloc; TreeLine::Clash(p(alloc)?)]?,
+            at_3(Why::NoClash)
+        ),
+        (
+            vec![in alloc; TreeLine::Barred(p(alloc)?)]?,
+            at_3(Why::NotBarred)
+        ),
         (vec![in alloc; TreeLine::By(1)]?, at_3(Why::LemmaNumber)),
     ]?;
     for (root, expected) in rows {
@@ -255,11 +264,27 @@ fn names_the_first_broken_rule(rt: HostRuntime) -> Result<(), Fail> {
 fn counts_the_lines_of_lemmas(rt: HostRuntime) -> Result<(), Fail> {
     let alloc = rt.alloc();
     let rows = vec![in alloc;
-        (vec![in alloc; form(alloc, 1), form(alloc, 2)]?, TreeLine::By(1), Ok(())),
-        (vec![in alloc; form(alloc, 1), TreeLine::By(1)]?, TreeLine::By(1),
-            Err(Reject::Line { line: 6, why: Why::LemmaNumber })),
-        (vec![in alloc; form(alloc, 1), form(alloc, 2)]?, form(alloc, 2),
-            Err(Reject::Line { line: 8, why: Why::Premise })),
+        (
+            vec![in alloc; form(alloc, 1), form(alloc, 2)]?,
+            TreeLine::By(1),
+            Ok(())
+        ),
+        (
+            vec![in alloc; form(alloc, 1), TreeLine::By(1)]?,
+            TreeLine::By(1),
+            Err(Reject::Line {
+                line: 6,
+                why: Why::LemmaNumber
+            })
+        ),
+        (
+            vec![in alloc; form(alloc, 1), form(alloc, 2)]?,
+            form(alloc, 2),
+            Err(Reject::Line {
+                line: 8,
+                why: Why::Premise
+            })
+        ),
     ]?;
     for (lemma, line, expected) in rows {
         let root = vec![in alloc; line]?;
