@@ -9,6 +9,7 @@ use Rattle.mg_word.specs.declared.clause.ClauseLit.TheVariants.{Lit as Literal}
 use Rattle.mg_word.specs.declared.clause.Clause.{Clause}
 use Rattle.mg_word.specs.declared.form.Form.{Form}
 
+-- the symbol of `p`
 abbrev pub symbol_p : Symbol
 symbol_p = symbol_of (112 ∷ []) 0 Word
 
