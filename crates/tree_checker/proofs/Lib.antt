@@ -1,9 +1,11 @@
 pub mod Blocks
 pub mod FormTruth
 pub mod Frames
+pub mod Larger
 pub mod LineFacts
 pub mod Lines
 pub mod Opened
+pub mod Openings
 pub mod Places
 pub mod Refuting
 pub mod Shapes

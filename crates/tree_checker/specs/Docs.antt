@@ -18,6 +18,7 @@ use Rattle.tree_checker.specs.declared.doc.Reject.TheVariants.{Line, NoMemory}
 abbrev pub lemma_of : LemmaBlock → Lemma
 lemma_of block = record { inside = block.inside; outside = block.outside }
 
+-- the lemmas of blocks, which their numbers name
 abbrev pub lemmas_of : List LemmaBlock → List Lemma
 lemmas_of blocks = map lemma_of blocks
 
@@ -33,6 +34,7 @@ most_symbols = 65536
 abbrev pub IsWordOf : List Symbol → List ℕ → Type 0
 IsWordOf table word = IsTrue (fits table word) × (length word ≤ most_symbols)
 
+-- the atom of each literal is a word of the table
 abbrev pub AreLitsOf : List Symbol → List Lit → Type 0
 AreLitsOf table lits = All (λ lit. IsWordOf table lit.word) lits
 

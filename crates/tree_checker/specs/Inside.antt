@@ -25,8 +25,10 @@ AreNested low_held low_barred [] held barred = (low_held ≤ held) × (low_barre
 AreNested low_held low_barred (frame ∷ frames) held barred =
     (low_held < frame.held) × (low_barred ≤ frame.barred) × AreNested frame.held frame.barred frames held barred
 
+-- the branch that is held, and those whose trees have not begun
 abbrev pub walk_seen : Inside → List Branch
 walk_seen walk = if walk.is_done then [] else record { held = walk.held; barred = walk.barred } ∷ pending walk.held walk.barred walk.frames.items
 
+-- while a branch is held, the counts of the frames rise to what it holds and bars
 abbrev pub IsWalk : Inside → Type 0
 IsWalk walk = walk.is_done ≡ false → AreNested 0 0 walk.frames.items (length walk.held) (length walk.barred)

@@ -21,10 +21,12 @@ line_instances forms (Clash lit) = []
 line_instances forms (Barred lit) = []
 line_instances forms (By number) = []
 
+-- those that the lines of a tree name
 abbrev pub tree_instances : List Form → List TreeLine → List Ground
 tree_instances forms [] = []
 tree_instances forms (line ∷ lines) = line_instances forms line ++ tree_instances forms lines
 
+-- those that the trees of blocks name
 abbrev pub block_instances : List Form → List LemmaBlock → List Ground
 block_instances forms [] = []
 block_instances forms (block ∷ blocks) = tree_instances forms block.tree ++ block_instances forms blocks

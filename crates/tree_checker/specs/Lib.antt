@@ -3,6 +3,8 @@ pub mod Docs
 pub mod Faults
 pub mod Inside
 pub mod Instances
+pub mod Openings
 pub mod Places
+pub mod Samples
 pub mod Trees
 pub mod Walks

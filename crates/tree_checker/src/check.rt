@@ -1,6 +1,6 @@
 //! The check of a document: each tree in one walk over its lines.
 
-ghost use Rattle.std.specs.Prelude.{◌≡◌, ◌≢◌, ◌<◌, ◌≤◌, ◌+◌, ◌^◌, [], ◌∷◌, All, length, take, MatchResult, IfErr, OnOk};
+ghost use Rattle.std.specs.Prelude.{◌≡◌, ◌≢◌, ◌<◌, ◌≤◌, ◌+◌, ◌^◌, All, length, take, MatchResult, IfErr, OnOk};
 ghost use Rattle.mg_meaning.specs.Refuting.{Refutes};
 ghost use Rattle.tree_checker.specs.Trees.{IsTree};
 ghost use Rattle.tree_checker.specs.Closing.{Closes};

@@ -1,5 +1,7 @@
 //! Why a text is not a document.
 
+use mg_word::NoMemory;
+
 /// What is wrong with a line.
 #[derive(Clone, Copy, Debug, PartialEq, Eq)]
 pub enum DocKind {
@@ -32,4 +34,15 @@ pub enum DocFault {
     Line { line: u64, kind: DocKind },
     /// Memory ran out.
     NoMemory,
+}
+
+impl From<NoMemory> for DocFault {
+    ghost use Rattle.std.specs.Prelude.{◌≡◌};
+    ghost use Rattle.tree_checker.specs.declared.doc_fault.DocFault.TheVariants.{NoMemory as OutOfMemory};
+
+    ghost from_gives = { λ _ fault. fault ≡ OutOfMemory };
+
+    fn from(_: NoMemory) -> Self {
+        DocFault::NoMemory
+    }
 }

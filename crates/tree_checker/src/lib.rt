@@ -7,6 +7,8 @@ mod doc_fault;
 mod frame;
 mod line;
 mod lits;
+#[cfg(test)]
+mod tests;
 mod trail;
 mod walk;
 

@@ -1,6 +1,6 @@
 //! The check of one line against the branch that it stands at.
 
-ghost use Rattle.std.specs.Prelude.{◌≡◌, ◌≢◌, ◌++◌, [], ◌∷◌, IfOk, IsTrue, ◌↔◌, MatchResult};
+ghost use Rattle.std.specs.Prelude.{◌≡◌, ◌≢◌, ◌↔◌, ◌++◌, [], IfOk, IsTrue, MatchResult};
 ghost use Rattle.std.specs.Option.{option_map};
 ghost use Rattle.mg_word.specs.Sets.{holds};
 ghost use Rattle.mg_word.specs.Words.{complement_of, numbered};

@@ -1,6 +1,6 @@
 //! Literals in the order of their entry, with an index for membership.
 
-ghost use Rattle.std.specs.Prelude.{◌≡◌, ◌++◌, ◌∷◌, [], IfOk, OnOk, OnErr, MatchOption, length, take};
+ghost use Rattle.std.specs.Prelude.{◌≡◌, ◌++◌, ◌∷◌, [], OnOk, OnErr, MatchOption, length, take};
 ghost use Rattle.mg_word.specs.Sets.{holds};
 
 use mg_word::{Lit, NoMemory};

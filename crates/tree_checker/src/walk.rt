@@ -66,7 +66,7 @@ impl Walk {
         &self.barred
     }
 
-    /// Puts a branch for each conclusion in the place of the next one. After an error no branch is left.
+    /// Puts a branch for each conclusion in the place of the next one. After an error the walk is of no use.
     pub fn split(&mut self, mut conclusions: Vec<Lit>) -> Result<(), NoMemory>
         requires { self.old ≢ [] }
         ensures { OnOk result (self.new ≡ split_by (next_of self.old) conclusions.items ++ after_next self.old) }
