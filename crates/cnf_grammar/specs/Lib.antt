@@ -1,0 +1,4 @@
+pub mod Shapes
+pub mod Trees
+pub mod Spelling
+pub mod Table
