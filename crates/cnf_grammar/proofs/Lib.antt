@@ -1,3 +1,6 @@
 mod Accepting
 mod Rests
 mod Accepted
+mod AcceptedNotes
+mod AcceptedFiles
+mod Spelled
