@@ -4,3 +4,4 @@ mod Accepted
 mod AcceptedNotes
 mod AcceptedFiles
 mod Spelled
+mod SpelledFiles
