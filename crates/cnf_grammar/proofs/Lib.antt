@@ -5,3 +5,5 @@ mod AcceptedNotes
 mod AcceptedFiles
 mod Spelled
 mod SpelledFiles
+mod Completed
+mod Joined

@@ -2,3 +2,4 @@ pub mod Shapes
 pub mod Trees
 pub mod Spelling
 pub mod Table
+pub mod Laws

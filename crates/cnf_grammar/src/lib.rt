@@ -2,9 +2,14 @@
 #![tactic(auto)]
 
 mod brackets;
+mod laws;
 mod mode;
 mod place;
 
 pub use brackets::{Bracket, Brackets};
+pub use laws::{
+    each_file_is_accepted, each_place_can_be_completed, fronts_lead_on, only_files_are_accepted,
+    place_tells_what_may_come, stops_at_first_fault,
+};
 pub use mode::Mode;
 pub use place::Place;
