@@ -7,3 +7,4 @@ mod Spelled
 mod SpelledFiles
 mod Completed
 mod Joined
+mod Examples
