@@ -3,3 +3,4 @@ pub mod Trees
 pub mod Spelling
 pub mod Table
 pub mod Laws
+pub mod Seen

@@ -3,6 +3,7 @@
 
 mod brackets;
 mod laws;
+mod lexeme;
 mod mode;
 mod place;
 
@@ -11,5 +12,6 @@ pub use laws::{
     each_file_is_accepted, each_place_can_be_completed, fronts_lead_on, only_files_are_accepted,
     place_tells_what_may_come, stops_at_first_fault,
 };
+pub use lexeme::Lexeme;
 pub use mode::Mode;
 pub use place::Place;
