@@ -1,6 +1,8 @@
 //! The brackets that an annotation has open.
 
-ghost use Rattle.std.specs.Prelude.{◌≡◌, [], ◌∷◌, OnOk, OnErr};
+ghost use Rattle.std.specs.Prelude.{◌≡◌, List, [], ◌∷◌, OnOk, OnErr, MatchOption, drop};
+ghost use Rattle.cnf_grammar.specs.declared.brackets.Bracket.{Bracket};
+ghost use Rattle.cnf_grammar.specs.Spelling.{closing};
 
 use mg_word::NoMemory;
 use std::alloc::Global;
@@ -11,6 +13,18 @@ use std::marker::Model;
 pub enum Bracket {
     Round,
     Square,
+}
+
+impl Bracket {
+    /// The mark that closes it.
+    pub fn closing(self) -> u8
+        ensures { result ≡ closing self }
+    {
+        match self {
+            Bracket::Round => b')',
+            Bracket::Square => b']',
+        }
+    }
 }
 
 /// The kinds of the brackets that are open. Contracts see them as a list, the innermost first.
@@ -45,5 +59,39 @@ impl Brackets {
     {
         self.open.push(bracket)?;
         Ok(())
+    }
+
+    /// Has this one bracket open, in place of all others.
+    pub fn restart(&mut self, bracket: Bracket) -> Result<(), NoMemory>
+        ensures ok { OnOk result (self.new ≡ bracket ∷ []) }
+        ensures err { OnErr result (self.new ≡ self.old) }
+    {
+        if self.open.is_empty() {
+            return self.push(bracket);
+        }
+        self.open.truncate(1);
+        self.open[0] = bracket;
+        Ok(())
+    }
+
+    /// Closes the innermost bracket, if one is open.
+    pub fn close(&mut self)
+        ensures { self.new ≡ drop 1 self.old }
+    {
+        let _closed = self.open.pop();
+    }
+
+    /// Closes all brackets.
+    pub fn clear(&mut self)
+        ensures { self.new ≡ [] }
+    {
+        self.open.clear();
+    }
+
+    /// The kind of the innermost bracket that is open.
+    pub fn innermost(&self) -> Option<Bracket>
+        ensures { MatchOption result (self.now ≡ []) (λ bracket. (outer : List Bracket) × (self.now ≡ bracket ∷ outer)) }
+    {
+        self.open.last().copied()
     }
 }
