@@ -4,3 +4,4 @@ pub mod Spelling
 pub mod Table
 pub mod Laws
 pub mod Seen
+pub mod Moving

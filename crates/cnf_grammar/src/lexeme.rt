@@ -7,6 +7,7 @@ ghost use Rattle.cnf_grammar.specs.Seen.{seen};
 use tptp_lexer::TokenKind;
 
 /// A token: its kind, its bytes as written, and whether it is a plain number.
+#[derive(Clone, Copy)]
 pub struct Lexeme<'a> {
     pub kind: TokenKind,
     pub text: &'a [u8],
