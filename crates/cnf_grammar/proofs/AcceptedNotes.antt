@@ -88,9 +88,9 @@ module _ (mode : Mode) (annotates : Annotates mode) where
   accepts-balanced (then_group inner inside more) level depth bracket outer rest h =
       let behind = Punct (closing inner) ∷ (spell_balanced more ++ rest) in
       let there : Accepts (place mode level depth (inner ∷ (bracket ∷ outer))) (spell_balanced inside ++ behind) =
-          accepts-balanced inside level depth inner (bracket ∷ outer) behind
-          (inside_goes level depth inner (bracket ∷ outer) (Punct (closing inner)) (spell_balanced more ++ rest)
-          (closes inner (bracket ∷ outer) mode level depth (spell_balanced more ++ rest) (accepts-balanced more level depth bracket outer rest h))) in
+      accepts-balanced inside level depth inner (bracket ∷ outer) behind
+      (inside_goes level depth inner (bracket ∷ outer) (Punct (closing inner)) (spell_balanced more ++ rest)
+      (closes inner (bracket ∷ outer) mode level depth (spell_balanced more ++ rest) (accepts-balanced more level depth bracket outer rest h))) in
       let same : spell_balanced inside ++ behind ≡ (spell_balanced inside ++ Punct (closing inner) ∷ spell_balanced more) ++ rest = sym (append_assoc (spell_balanced inside) (Punct (closing inner) ∷ spell_balanced more) rest) in
       inside_goes level depth bracket outer (opening inner) ((spell_balanced inside ++ Punct (closing inner) ∷ spell_balanced more) ++ rest)
       (within-other bracket outer (opening inner) (place mode level depth (bracket ∷ outer)) ((spell_balanced inside ++ Punct (closing inner) ∷ spell_balanced more) ++ rest) (not_right_round inner) (not_right_square inner)
@@ -103,8 +103,8 @@ module _ (mode : Mode) (annotates : Annotates mode) where
       begins level depth s rest apart q.not_right_round q.not_right_square (stays s (place mode level depth []) rest plain h)
   accepts-part p begins (group inner inside) level depth rest h =
       let there : Accepts (place mode level depth (inner ∷ [])) (spell_balanced inside ++ (Punct (closing inner) ∷ rest)) =
-          accepts-balanced inside level depth inner [] (Punct (closing inner) ∷ rest)
-          (inside_goes level depth inner [] (Punct (closing inner)) rest (closes inner [] mode level depth rest h)) in
+      accepts-balanced inside level depth inner [] (Punct (closing inner) ∷ rest)
+      (inside_goes level depth inner [] (Punct (closing inner)) rest (closes inner [] mode level depth rest h)) in
       let same : spell_balanced inside ++ (Punct (closing inner) ∷ rest) ≡ (spell_balanced inside ++ Punct (closing inner) ∷ []) ++ rest = sym (append_assoc (spell_balanced inside) (Punct (closing inner) ∷ []) rest) in
       begins level depth (opening inner) ((spell_balanced inside ++ Punct (closing inner) ∷ []) ++ rest) (not_comma inner) (not_right_round inner) (not_right_square inner)
       (opens inner mode level depth [] ((spell_balanced inside ++ Punct (closing inner) ∷ []) ++ rest)

@@ -44,7 +44,7 @@ empty_file : reading [] ≡ whole
 empty_file = refl
 
 -- cnf(a,axiom,p|~p).
-two_literals : reading (head ++ p ∷ (Punct bar ∷ (Punct tilde ∷ (p ∷ [])))  ++ tail) ≡ whole
+two_literals : reading (head ++ p ∷ (Punct bar ∷ (Punct tilde ∷ (p ∷ []))) ++ tail) ≡ whole
 two_literals = refl
 
 -- cnf(a,axiom,p

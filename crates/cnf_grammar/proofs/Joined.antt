@@ -59,21 +59,23 @@ run-nil (Some p) = refl
 
 -- where the table leads, it leads on exactly where some file goes on so
 pub goes_on : (tokens : List Shape) (p : Place) (s : Shape) → run start tokens ≡ Some p → (step p s ≡ None) ↔ (IsFront (tokens ++ s ∷ []) → ⊥)
-goes_on tokens p s e =
-    (λ none front. let q = front_is_some (tokens ++ s ∷ []) front in
-        let stops : run start (tokens ++ s ∷ []) ≡ None = step-after tokens p s e ∙ (run-nil (step p s) ∙ none) in cc,
-    λ stuck. no_place (step p s) (λ q same. stuck (some_is_front (tokens ++ s ∷ []) q (step-after tokens p s e ∙ (run-nil (step p s) ∙ same)))))
+goes_on tokens p s e = (
+  λ none front. let q = front_is_some (tokens ++ s ∷ []) front in
+      let stops : run start (tokens ++ s ∷ []) ≡ None = step-after tokens p s e ∙ (run-nil (step p s) ∙ none) in cc,
+  λ stuck. no_place (step p s) (λ q same. stuck (some_is_front (tokens ++ s ∷ []) q (step-after tokens p s e ∙ (run-nil (step p s) ∙ same)))),
+)
   where
     no_place : (o : Option Place) → ((q : Place) → o ≡ Some q → ⊥) → o ≡ None
     no_place None h = refl
     no_place (Some q) h = absurd (h q refl)
 
 pub may_end : (tokens : List Shape) (p : Place) → run start tokens ≡ Some p → (is_end p ≡ true) ↔ IsFile tokens
-may_end tokens p e =
-    (λ end. only_files tokens (p, e, end),
-    λ file. let h = every_file file.0 in
-        let there : run start tokens ≡ Some h.0 = subst (λ u. run start u ≡ Some h.0) file.1 h.1 in
-        let same : h.0 ≡ p = cc in subst (λ q. is_end q ≡ true) same h.2)
+may_end tokens p e = (
+  λ end. only_files tokens (p, e, end),
+  λ file. let h = every_file file.0 in
+      let there : run start tokens ≡ Some h.0 = subst (λ u. run start u ≡ Some h.0) file.1 h.1 in
+      let same : h.0 ≡ p = cc in subst (λ q. is_end q ≡ true) same h.2,
+)
 
 -- the same by IsSome
 pub is_some_value : (o : Option Place) → IsSome o → (p : Place) × (o ≡ Some p)
@@ -81,9 +83,10 @@ is_some_value None h = cc
 is_some_value (Some p) h = (p, refl)
 
 pub front_is : (tokens : List Shape) → IsSome (run start tokens) ↔ IsFront tokens
-front_is tokens =
-    (λ h. let p = is_some_value (run start tokens) h in some_is_front tokens p.0 p.1,
-    λ front. let p = front_is_some tokens front in ap is_some p.1)
+front_is tokens = (
+  λ h. let p = is_some_value (run start tokens) h in some_is_front tokens p.0 p.1,
+  λ front. let p = front_is_some tokens front in ap is_some p.1,
+)
 
 not_both : (b : Bool) → b ≡ true → b ≡ false → ⊥
 not_both b h k = cc
@@ -93,9 +96,10 @@ is_false true h = absurd (h refl)
 is_false false h = refl
 
 pub stops_at : (tokens : List Shape) (s : Shape) → StopsAt tokens s ↔ IsFirstFault tokens s
-stops_at tokens s =
-    (λ h. ((front_is tokens).0 h.0, λ front. not_both (is_some (run start (tokens ++ s ∷ []))) ((front_is (tokens ++ s ∷ [])).1 front) h.1),
-    λ h. ((front_is tokens).1 h.0, is_false (is_some (run start (tokens ++ s ∷ []))) (λ some. h.1 ((front_is (tokens ++ s ∷ [])).0 some))))
+stops_at tokens s = (
+  λ h. ((front_is tokens).0 h.0, λ front. not_both (is_some (run start (tokens ++ s ∷ []))) ((front_is (tokens ++ s ∷ [])).1 front) h.1),
+  λ h. ((front_is tokens).1 h.0, is_false (is_some (run start (tokens ++ s ∷ []))) (λ some. h.1 ((front_is (tokens ++ s ∷ [])).0 some))),
+)
 
 -- a run goes on by steps
 pub run_step : (tokens : List Shape) (p : Place) (s : Shape) → run start tokens ≡ Some p → run start (tokens ++ s ∷ []) ≡ step p s

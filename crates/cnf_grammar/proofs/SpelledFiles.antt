@@ -33,8 +33,8 @@ module _ (E : List Shape → Type 0) where
       either E (is_mark left_round s) (record p { brackets = Round ∷ p.brackets }) (or_else (is_mark left_square s) (record p { brackets = Square ∷ p.brackets }) (when (not (is_bracket s)) p)) tokens
       (λ e k. round (mark_is left_round s e) k)
       (λ _ g. either E (is_mark left_square s) (record p { brackets = Square ∷ p.brackets }) (when (not (is_bracket s)) p) tokens
-        (λ e k. square (mark_is left_square s e) k)
-        (λ _ f. let c = held (not (is_bracket s)) p tokens f in plain (negated (is_bracket s) c.0) c.1) g)
+      (λ e k. square (mark_is left_square s e) k)
+      (λ _ f. let c = held (not (is_bracket s)) p tokens f in plain (negated (is_bracket s) c.0) c.1) g)
       h
 
   source_part : (level depth : ℕ) (s : Shape) (tokens : List Shape) → is_mark comma s ≡ false → RestFrom E (any_token (place Source level depth []) s) tokens → Then spell_part (SourceParts E) (s ∷ tokens)
@@ -50,8 +50,9 @@ module _ (E : List Shape → Type 0) where
       (λ e k. at_token (InfoParts E) s (Punct left_round) tokens e (parts_more (InfoItems E) (Punct left_round ∷ tokens) (part_group (InfoParts E) Round tokens k)))
       (λ e k. at_token (InfoParts E) s (Punct left_square) tokens e (parts_more (InfoItems E) (Punct left_square ∷ tokens) (part_group (InfoParts E) Square tokens k)))
       (λ e k. elim (two (is_mark comma s)) [
-        inl here ↦ at_token (InfoParts E) s (Punct comma) tokens (mark_is comma s here) (item_more E tokens k)
-      | inr apart ↦ parts_more (InfoItems E) (s ∷ tokens) (so (single s e apart) k) ])
+        | inl here ↦ at_token (InfoParts E) s (Punct comma) tokens (mark_is comma s here) (item_more E tokens k)
+        | inr apart ↦ parts_more (InfoItems E) (s ∷ tokens) (so (single s e apart) k)
+      ])
       h
 
   source_within : (level depth : ℕ) (bracket : Bracket) (outer : List Bracket) (s : Shape) (tokens : List Shape) → RestFrom E (within bracket outer (place Source level depth (bracket ∷ outer)) s) tokens → Inside (bracket ∷ outer) (SourceParts E) (s ∷ tokens)
@@ -61,9 +62,9 @@ module _ (E : List Shape → Type 0) where
       either E (is_mark (closing bracket) s) (place Source level depth outer) (any_token p s) tokens
       (λ e k. at_token here s (Punct (closing bracket)) tokens (mark_is (closing bracket) s e) (so no_tokens (next k)))
       (λ _ g. token_cases p s tokens
-        (λ e k. at_token here s (Punct left_round) tokens e (inner_group (SourceParts E) Round bracket outer tokens k))
-        (λ e k. at_token here s (Punct left_square) tokens e (inner_group (SourceParts E) Square bracket outer tokens k))
-        (λ e k. inner_token (SourceParts E) s e bracket outer tokens k) g)
+      (λ e k. at_token here s (Punct left_round) tokens e (inner_group (SourceParts E) Round bracket outer tokens k))
+      (λ e k. at_token here s (Punct left_square) tokens e (inner_group (SourceParts E) Square bracket outer tokens k))
+      (λ e k. inner_token (SourceParts E) s e bracket outer tokens k) g)
       h
 
   info_within : (level depth : ℕ) (bracket : Bracket) (outer : List Bracket) (s : Shape) (tokens : List Shape) → RestFrom E (within bracket outer (place Info level depth (bracket ∷ outer)) s) tokens → Inside (bracket ∷ outer) (InfoParts E) (s ∷ tokens)
@@ -73,9 +74,9 @@ module _ (E : List Shape → Type 0) where
       either E (is_mark (closing bracket) s) (place Info level depth outer) (any_token p s) tokens
       (λ e k. at_token here s (Punct (closing bracket)) tokens (mark_is (closing bracket) s e) (so no_tokens (next k)))
       (λ _ g. token_cases p s tokens
-        (λ e k. at_token here s (Punct left_round) tokens e (inner_group (InfoParts E) Round bracket outer tokens k))
-        (λ e k. at_token here s (Punct left_square) tokens e (inner_group (InfoParts E) Square bracket outer tokens k))
-        (λ e k. inner_token (InfoParts E) s e bracket outer tokens k) g)
+      (λ e k. at_token here s (Punct left_round) tokens e (inner_group (InfoParts E) Round bracket outer tokens k))
+      (λ e k. at_token here s (Punct left_square) tokens e (inner_group (InfoParts E) Square bracket outer tokens k))
+      (λ e k. inner_token (InfoParts E) s e bracket outer tokens k) g)
       h
 
   in_source_moved : (level depth : ℕ) (brackets : List Bracket) (s : Shape) (tokens : List Shape) → RestFrom E (in_source brackets (place Source level depth brackets) s) tokens → Inside brackets (SourceParts E) (s ∷ tokens)
@@ -84,8 +85,8 @@ module _ (E : List Shape → Type 0) where
       either E (is_mark comma s) (to InfoStart p) (or_else (is_mark right_round s) (to ClauseClosed p) (any_token p s)) tokens
       (λ e k. so [] (at_token (AfterSource E) s (Punct comma) tokens (mark_is comma s e) (info_follows E tokens k)))
       (λ apart g. either E (is_mark right_round s) (to ClauseClosed p) (any_token p s) tokens
-        (λ e k. so [] (at_token (AfterSource E) s (Punct right_round) tokens (mark_is right_round s e) (so None (next k))))
-        (λ _ f. parts_more (AfterSource E) (s ∷ tokens) (source_part level depth s tokens apart f)) g)
+      (λ e k. so [] (at_token (AfterSource E) s (Punct right_round) tokens (mark_is right_round s e) (so None (next k))))
+      (λ _ f. parts_more (AfterSource E) (s ∷ tokens) (source_part level depth s tokens apart f)) g)
       h
   in_source_moved level depth (bracket ∷ outer) s tokens h = source_within level depth bracket outer s tokens h
 
@@ -139,7 +140,7 @@ module _ (E : List Shape → Type 0) where
       either E (is_simple_term s) (place TermRead level depth brackets) (when (is_word s) (place WordRead level depth brackets)) tokens
       (λ e k. let term = simple_is s e in along (TermStarts E level depth) (ap (λ u. u ++ tokens) term.1) (so term.0 k))
       (λ _ g. let c = held (is_word s) (place WordRead level depth brackets) tokens g in let word = word_is s c.0 in
-        at_token (TermStarts E level depth) s (word_token word.0) tokens word.1 (term_of_word E level depth word.0 tokens c.1))
+      at_token (TermStarts E level depth) s (word_token word.0) tokens word.1 (term_of_word E level depth word.0 tokens c.1))
       h
 
   atom_start_moved : (mode : Mode) (level depth : ℕ) (brackets : List Bracket) (s : Shape) (tokens : List Shape) → RestFrom E (atom_start (place mode level depth brackets) s) tokens → AtomStarts E level (s ∷ tokens)
@@ -147,9 +148,10 @@ module _ (E : List Shape → Type 0) where
       either E (is_word s) (place WordRead level 0 brackets) (when (is_defined (codes "$true") s || is_defined (codes "$false") s) (place TermRead level 0 brackets)) tokens
       (λ e k. let word = word_is s e in at_token (AtomStarts E level) s (word_token word.0) tokens word.1 (atom_of_word E level word.0 tokens k))
       (λ _ g. let c = held (is_defined (codes "$true") s || is_defined (codes "$false") s) (place TermRead level 0 brackets) tokens g in
-        elim (one_of (is_defined (codes "$true") s) (is_defined (codes "$false") s) c.0) [
-          inl e ↦ at_token (AtomStarts E level) s (Dollar (codes "$true")) tokens (defined_is (codes "$true") s e) (so truth c.1)
-        | inr e ↦ at_token (AtomStarts E level) s (Dollar (codes "$false")) tokens (defined_is (codes "$false") s e) (so falsity c.1) ])
+      elim (one_of (is_defined (codes "$true") s) (is_defined (codes "$false") s) c.0) [
+        | inl e ↦ at_token (AtomStarts E level) s (Dollar (codes "$true")) tokens (defined_is (codes "$true") s e) (so truth c.1)
+        | inr e ↦ at_token (AtomStarts E level) s (Dollar (codes "$false")) tokens (defined_is (codes "$false") s e) (so falsity c.1)
+      ])
       h
 
   literal_start_moved : (mode : Mode) (level depth : ℕ) (brackets : List Bracket) (s : Shape) (tokens : List Shape) → RestFrom E (literal_start (place mode level depth brackets) s) tokens → LiteralStarts E level (s ∷ tokens)
@@ -190,26 +192,28 @@ module _ (E : List Shape → Type 0) where
 
 -- between statements
 file_of_clause : (tokens : List Shape) → Next left_round (NameStarts IsFile) tokens → IsFile (Lower (codes "cnf") ∷ tokens)
-file_of_clause _ (next (one name (next (one role (next (so formula (so notes (next (next {rest} (file, same))))))))))  =
-    (clause name role formula notes ∷ file,
-    ap (λ u. Lower (codes "cnf") ∷ (Punct left_round ∷ (name_token name ∷ (Punct comma ∷ (Lower role ∷ (Punct comma ∷ u))))))
-    (append_assoc (spell_formula formula) (spell_annotations notes ++ Punct right_round ∷ (Punct dot ∷ [])) (spell file)
-    ∙ ap (λ u. spell_formula formula ++ u) (append_assoc (spell_annotations notes) (Punct right_round ∷ (Punct dot ∷ [])) (spell file)
-    ∙ ap (λ u. spell_annotations notes ++ Punct right_round ∷ (Punct dot ∷ u)) same)))
+file_of_clause _ (next (one name (next (one role (next (so formula (so notes (next (next {rest} (file, same)))))))))) = (
+  clause name role formula notes ∷ file,
+  ap (λ u. Lower (codes "cnf") ∷ (Punct left_round ∷ (name_token name ∷ (Punct comma ∷ (Lower role ∷ (Punct comma ∷ u))))))
+      (append_assoc (spell_formula formula) (spell_annotations notes ++ Punct right_round ∷ (Punct dot ∷ [])) (spell file)
+      ∙ ap (λ u. spell_formula formula ++ u) (append_assoc (spell_annotations notes) (Punct right_round ∷ (Punct dot ∷ [])) (spell file)
+      ∙ ap (λ u. spell_annotations notes ++ Punct right_round ∷ (Punct dot ∷ u)) same)),
+)
 
 file_of_include : (tokens : List Shape) → Next left_round (FileStarts IsFile) tokens → IsFile (Lower (codes "include") ∷ tokens)
-file_of_include _ (next (one name (so selection (next (next {rest} (file, same)))))) =
-    (include name selection ∷ file,
-    ap (λ u. Lower (codes "include") ∷ (Punct left_round ∷ (file_token name ∷ u)))
-    (append_assoc (spell_selection selection) (Punct right_round ∷ (Punct dot ∷ [])) (spell file)
-    ∙ ap (λ u. spell_selection selection ++ Punct right_round ∷ (Punct dot ∷ u)) same))
+file_of_include _ (next (one name (so selection (next (next {rest} (file, same)))))) = (
+  include name selection ∷ file,
+  ap (λ u. Lower (codes "include") ∷ (Punct left_round ∷ (file_token name ∷ u)))
+      (append_assoc (spell_selection selection) (Punct right_round ∷ (Punct dot ∷ [])) (spell file)
+      ∙ ap (λ u. spell_selection selection ++ Punct right_round ∷ (Punct dot ∷ u)) same),
+)
 
 between_moved : (level depth : ℕ) (brackets : List Bracket) (s : Shape) (tokens : List Shape) → RestFrom IsFile (between (place Statement level depth brackets) s) tokens → IsFile (s ∷ tokens)
 between_moved level depth brackets s tokens h =
     either IsFile (is_keyword (codes "cnf") s) (place ClauseWord level depth brackets) (when (is_keyword (codes "include") s) (place IncludeWord level depth brackets)) tokens
     (λ e k. at_token IsFile s (Lower (codes "cnf")) tokens (keyword_is (codes "cnf") s e) (file_of_clause tokens k))
     (λ _ g. let c = held IsFile (is_keyword (codes "include") s) (place IncludeWord level depth brackets) tokens g in
-      at_token IsFile s (Lower (codes "include")) tokens (keyword_is (codes "include") s c.0) (file_of_include tokens c.1))
+    at_token IsFile s (Lower (codes "include")) tokens (keyword_is (codes "include") s c.0) (file_of_include tokens c.1))
     h
 
 pub moved : (mode : Mode) (level depth : ℕ) (brackets : List Bracket) (s : Shape) (tokens : List Shape) → RestFrom IsFile (step_at mode (place mode level depth brackets) s) tokens → rest_at IsFile mode level depth brackets (s ∷ tokens)

@@ -11,33 +11,28 @@ ghost use Rattle.cnf_grammar.specs.Laws.{LeadsToEnd, StopsAt, IsFirstFault};
 /// The tokens that a tree spells lead from the start to a place where a file may end.
 pub fn each_file_is_accepted()
     ensures { (file : List Statement) → LeadsToEnd start (spell file) }
-{
-}
+{}
 
 /// Tokens that lead from the start to a place where a file may end, some tree spells.
 pub fn only_files_are_accepted()
     ensures { (tokens : List Shape) → LeadsToEnd start tokens → IsFile tokens }
-{
-}
+{}
 
 /// From each place some tokens lead to one where a file may end.
 pub fn each_place_can_be_completed()
     ensures { (p : Place) → (tokens : List Shape) × LeadsToEnd p tokens }
-{
-}
+{}
 
 /// Tokens lead from the start to some place exactly where they are the front of some file.
 pub fn fronts_lead_on()
     ensures { (tokens : List Shape) → IsSome (run start tokens) ↔ IsFront tokens }
-{
-}
+{}
 
 /// The table stops at a token exactly where the tokens before it are the front of some file and
 /// those up to it are not.
 pub fn stops_at_first_fault()
     ensures { (tokens : List Shape) (s : Shape) → StopsAt tokens s ↔ IsFirstFault tokens s }
-{
-}
+{}
 
 /// Where tokens lead to a place, what the table says of that place is what the grammar says of the
 /// tokens: where the next token leads, whether it can come, and whether the file may end here.
@@ -45,5 +40,4 @@ pub fn place_tells_what_may_come()
     ensures next { (tokens : List Shape) (p : Place) (s : Shape) → run start tokens ≡ Some p → run start (tokens ++ s ∷ []) ≡ step p s }
     ensures stop { (tokens : List Shape) (p : Place) (s : Shape) → run start tokens ≡ Some p → (step p s ≡ None) ↔ (IsFront (tokens ++ s ∷ []) → ⊥) }
     ensures end { (tokens : List Shape) (p : Place) → run start tokens ≡ Some p → (is_end p ≡ true) ↔ IsFile tokens }
-{
-}
+{}

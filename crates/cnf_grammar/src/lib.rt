@@ -1,11 +1,14 @@
 //! The grammar of problem files in clause normal form: what a file is, and the table that follows it token by token.
 #![tactic(auto)]
 
+mod annotations;
 mod brackets;
+mod formulas;
 mod laws;
 mod lexeme;
 mod mode;
 mod place;
+mod statements;
 
 pub use brackets::{Bracket, Brackets};
 pub use laws::{

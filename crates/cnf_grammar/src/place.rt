@@ -1,13 +1,11 @@
 //! A place in a file, and how a token moves it.
 
-ghost use Rattle.std.specs.Prelude.{◌≡◌, ◌+◌, ◌<◌, ◌^◌, List, ◌∷◌, Some, None, IfOk, OnErr};
-ghost use Rattle.cnf_grammar.specs.declared.brackets.Bracket.{Bracket};
+ghost use Rattle.std.specs.Prelude.{◌≡◌, ◌+◌, ◌<◌, ◌^◌, IfOk, OnErr};
 ghost use Rattle.cnf_grammar.specs.Moving.{Moves};
-ghost use Rattle.cnf_grammar.specs.Seen.{seen};
 ghost use Rattle.cnf_grammar.specs.Shapes.{shape_of};
-ghost use Rattle.cnf_grammar.specs.Table.{when, to, between, atom_start, literal_start, formula_start, after_formula, after_literal, after_term, after_word, term_start, any_token, within, source_start, in_source, in_info, after_file, selection_open, after_selected, step_at, step, start};
+ghost use Rattle.cnf_grammar.specs.Table.{when, to, step, start};
 
-use crate::{Bracket, Brackets, Lexeme, Mode};
+use crate::{Brackets, Lexeme, Mode};
 use mg_word::NoMemory;
 use std::alloc::Global;
 use tptp_lexer::TokenKind;
@@ -38,265 +36,9 @@ impl Place {
         }
     }
 
-    fn go_if(&mut self, test: bool, mode: Mode) -> bool
-        ensures { Moves (when test (to mode self.old)) result self.old self.new }
-    {
-        if test {
-            self.mode = mode;
-        }
-        test
-    }
-
-    fn between(&mut self, token: &Lexeme) -> bool
-        ensures { Moves (between self.old (seen token.now)) result self.old self.new }
-    {
-        if token.is_keyword(b"cnf") {
-            self.mode = Mode::ClauseWord;
-            return true;
-        }
-        self.go_if(token.is_keyword(b"include"), Mode::IncludeWord)
-    }
-
-    fn role_read(&mut self, token: &Lexeme) -> bool
-        ensures { Moves (step_at Mode.RoleRead self.old (seen token.now)) result self.old self.new }
-    {
-        if token.is_mark(b',') {
-            self.mode = Mode::FormulaStart;
-            self.level = 0;
-            return true;
-        }
-        false
-    }
-
-    fn atom_start(&mut self, token: &Lexeme) -> bool
-        ensures { Moves (atom_start self.old (seen token.now)) result self.old self.new }
-    {
-        if token.is_word() {
-            self.mode = Mode::WordRead;
-            self.depth = 0;
-            return true;
-        }
-        if token.is_defined(b"$true") || token.is_defined(b"$false") {
-            self.mode = Mode::TermRead;
-            self.depth = 0;
-            return true;
-        }
-        false
-    }
-
-    fn literal_start(&mut self, token: &Lexeme) -> bool
-        ensures { Moves (literal_start self.old (seen token.now)) result self.old self.new }
-    {
-        if token.is_mark(b'~') {
-            self.mode = Mode::AtomStart;
-            return true;
-        }
-        self.atom_start(token)
-    }
-
-    fn formula_start(&mut self, token: &Lexeme) -> bool
-        requires { self.old.level + 1 < 2 ^ 32 }
-        ensures { Moves (formula_start self.old (seen token.now)) result self.old self.new }
-    {
-        if token.is_mark(b'(') {
-            self.level += 1;
-            return true;
-        }
-        self.literal_start(token)
-    }
-
-    fn after_formula(&mut self, token: &Lexeme) -> bool
-        ensures { Moves (after_formula self.old.level self.old (seen token.now)) result self.old self.new }
-    {
-        if self.level == 0 {
-            if token.is_mark(b',') {
-                self.mode = Mode::SourceStart;
-                return true;
-            }
-            return self.go_if(token.is_mark(b')'), Mode::ClauseClosed);
-        }
-        if token.is_mark(b')') {
-            self.mode = Mode::FormulaClosed;
-            self.level -= 1;
-            return true;
-        }
-        false
-    }
-
-    fn after_literal(&mut self, token: &Lexeme) -> bool
-        ensures { Moves (after_literal self.old (seen token.now)) result self.old self.new }
-    {
-        if token.is_mark(b'|') {
-            self.mode = Mode::LiteralStart;
-            return true;
-        }
-        self.after_formula(token)
-    }
-
-    fn after_term(&mut self, token: &Lexeme) -> bool
-        ensures { Moves (after_term self.old.depth self.old (seen token.now)) result self.old self.new }
-    {
-        if self.depth == 0 {
-            return self.after_literal(token);
-        }
-        if token.is_mark(b',') {
-            self.mode = Mode::TermStart;
-            return true;
-        }
-        if token.is_mark(b')') {
-            self.mode = Mode::TermRead;
-            self.depth -= 1;
-            return true;
-        }
-        false
-    }
-
-    fn after_word(&mut self, token: &Lexeme) -> bool
-        requires { self.old.depth + 1 < 2 ^ 32 }
-        ensures { Moves (after_word self.old (seen token.now)) result self.old self.new }
-    {
-        if token.is_mark(b'(') {
-            self.mode = Mode::TermStart;
-            self.depth += 1;
-            return true;
-        }
-        self.after_term(token)
-    }
-
-    fn term_start(&mut self, token: &Lexeme) -> bool
-        ensures { Moves (term_start self.old (seen token.now)) result self.old self.new }
-    {
-        if token.is_simple_term() {
-            self.mode = Mode::TermRead;
-            return true;
-        }
-        self.go_if(token.is_word(), Mode::WordRead)
-    }
-
-    fn any_token(&mut self, token: &Lexeme) -> Result<bool, NoMemory>
-        ensures ok { IfOk result (λ moved. Moves (any_token self.old (seen token.now)) moved self.old self.new) }
-        ensures err { OnErr result (self.new ≡ self.old) }
-    {
-        if token.is_mark(b'(') {
-            self.brackets.push(Bracket::Round)?;
-            return Ok(true);
-        }
-        if token.is_mark(b'[') {
-            self.brackets.push(Bracket::Square)?;
-            return Ok(true);
-        }
-        Ok(!token.is_bracket())
-    }
-
-    fn within(&mut self, bracket: Bracket, token: &Lexeme) -> Result<bool, NoMemory>
-        ensures ok { IfOk result (λ moved. (outer : List Bracket) → self.old.brackets ≡ bracket ∷ outer → Moves (within bracket outer self.old (seen token.now)) moved self.old self.new) }
-        ensures err { OnErr result (self.new ≡ self.old) }
-    {
-        if token.is_mark(bracket.closing()) {
-            self.brackets.close();
-            return Ok(true);
-        }
-        self.any_token(token)
-    }
-
-    fn source_start(&mut self, token: &Lexeme) -> Result<bool, NoMemory>
-        ensures ok { IfOk result (λ moved. Moves (source_start self.old (seen token.now)) moved self.old self.new) }
-        ensures err { OnErr result (self.new ≡ self.old) }
-    {
-        if token.is_mark(b'(') {
-            self.brackets.restart(Bracket::Round)?;
-        } else if token.is_mark(b'[') {
-            self.brackets.restart(Bracket::Square)?;
-        } else if token.is_mark(b',') || token.is_bracket() {
-            return Ok(false);
-        } else {
-            self.brackets.clear();
-        }
-        self.mode = Mode::Source;
-        Ok(true)
-    }
-
-    fn in_source(&mut self, token: &Lexeme) -> Result<bool, NoMemory>
-        ensures ok { IfOk result (λ moved. Moves (in_source self.old.brackets self.old (seen token.now)) moved self.old self.new) }
-        ensures err { OnErr result (self.new ≡ self.old) }
-    {
-        if let Some(bracket) = self.brackets.innermost() {
-            return self.within(bracket, token);
-        }
-        if token.is_mark(b',') {
-            self.mode = Mode::InfoStart;
-            return Ok(true);
-        }
-        if token.is_mark(b')') {
-            self.mode = Mode::ClauseClosed;
-            return Ok(true);
-        }
-        self.any_token(token)
-    }
-
-    fn info_start(&mut self, token: &Lexeme) -> bool
-        ensures { Moves (step_at Mode.InfoStart self.old (seen token.now)) result self.old self.new }
-    {
-        if token.is_mark(b'[') {
-            self.mode = Mode::Info;
-            self.brackets.clear();
-            return true;
-        }
-        false
-    }
-
-    fn in_info(&mut self, token: &Lexeme) -> Result<bool, NoMemory>
-        ensures ok { IfOk result (λ moved. Moves (in_info self.old.brackets self.old (seen token.now)) moved self.old self.new) }
-        ensures err { OnErr result (self.new ≡ self.old) }
-    {
-        if let Some(bracket) = self.brackets.innermost() {
-            return self.within(bracket, token);
-        }
-        if token.is_mark(b']') {
-            self.mode = Mode::InfoClosed;
-            return Ok(true);
-        }
-        self.any_token(token)
-    }
-
-    fn after_file(&mut self, token: &Lexeme) -> bool
-        ensures { Moves (after_file self.old (seen token.now)) result self.old self.new }
-    {
-        if token.is_mark(b',') {
-            self.mode = Mode::SelectionStart;
-            return true;
-        }
-        self.go_if(token.is_mark(b')'), Mode::IncludeClosed)
-    }
-
-    fn selection_open(&mut self, token: &Lexeme) -> bool
-        ensures { Moves (selection_open self.old (seen token.now)) result self.old self.new }
-    {
-        if token.is_name() {
-            self.mode = Mode::SelectedRead;
-            return true;
-        }
-        self.go_if(token.is_mark(b']'), Mode::SelectionClosed)
-    }
-
-    fn after_selected(&mut self, token: &Lexeme) -> bool
-        ensures { Moves (after_selected self.old (seen token.now)) result self.old self.new }
-    {
-        if token.is_mark(b',') {
-            self.mode = Mode::SelectedStart;
-            return true;
-        }
-        self.go_if(token.is_mark(b']'), Mode::SelectionClosed)
-    }
-
     /// Moves to the place that the token leads to, and says whether there is one. Where there is
     /// none, or memory runs out, the place stays as it is.
-    pub fn advance(
-        &mut self,
-        kind: TokenKind,
-        text: &[u8],
-        plain: bool,
-    ) -> Result<bool, NoMemory>
+    pub fn advance(&mut self, kind: TokenKind, text: &[u8], plain: bool) -> Result<bool, NoMemory>
         requires level { self.old.level + 1 < 2 ^ 32 }
         requires depth { self.old.depth + 1 < 2 ^ 32 }
         ensures ok { IfOk result (λ moved. Moves (step self.old (shape_of kind text.now plain)) moved self.old self.new) }
@@ -333,5 +75,15 @@ impl Place {
             Mode::SelectionClosed => Ok(self.go_if(token.is_mark(b')'), Mode::IncludeClosed)),
             Mode::IncludeClosed => Ok(self.go_if(token.is_mark(b'.'), Mode::Statement)),
         }
+    }
+
+    /// Goes on to this mode where the test holds.
+    pub(crate) fn go_if(&mut self, test: bool, mode: Mode) -> bool
+        ensures { Moves (when test (to mode self.old)) result self.old self.new }
+    {
+        if test {
+            self.mode = mode;
+        }
+        test
     }
 }
