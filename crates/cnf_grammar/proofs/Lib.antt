@@ -8,3 +8,4 @@ mod SpelledFiles
 mod Completed
 mod Joined
 mod Examples
+mod Readings

@@ -5,3 +5,5 @@ pub mod Table
 pub mod Laws
 pub mod Seen
 pub mod Moving
+pub mod Conclude
+pub mod Meaning
