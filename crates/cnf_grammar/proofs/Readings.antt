@@ -39,7 +39,7 @@ abbrev noted : Annotations
 noted = annotations (record { first = single (Lower (codes "s")) refl refl; more = [] })
     (Some (record {
       first = single (Lower (codes "conclude")) refl refl ∷ (group Round (then_group Square (then_token (Number (codes "1") true) refl (then_token (Punct comma) refl (then_token (Number (codes "2") true) refl no_tokens))) no_tokens) ∷ []);
-      more = (single (Lower (codes "other")) refl refl ∷ []) ∷ ((single (Lower (codes "conclude")) refl refl ∷ (group Round (then_group Square no_tokens no_tokens) ∷ [])) ∷ [])
+      more = (single (Lower (codes "other")) refl refl ∷ []) ∷ ((single (Lower (codes "conclude")) refl refl ∷ (group Round (then_group Square no_tokens no_tokens) ∷ [])) ∷ []);
     }))
 
 two_items : conclusions_of noted ≡ (1 ∷ (2 ∷ [])) ∷ ([] ∷ [])

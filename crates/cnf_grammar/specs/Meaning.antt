@@ -150,7 +150,7 @@ clause_of name role formula notes = record {
   role = role;
   literals = map (clause_literal (variables_of formula)) (literals_of formula);
   variables = variables_of formula;
-  conclude = conclusions_of notes
+  conclude = conclusions_of notes;
 }
 
 -- a file's name, without quotes and escapes

@@ -9,6 +9,8 @@ mod lexeme;
 mod mode;
 mod place;
 mod statements;
+#[cfg(test)]
+mod tests;
 
 pub use brackets::{Bracket, Brackets};
 pub use laws::{
