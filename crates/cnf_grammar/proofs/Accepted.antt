@@ -1,17 +1,13 @@
 -- What the trees at a place spell, the table accepts from there.
-use Rattle.std.proofs.Common.{◌≡◌, ℕ, zero, suc, Bool, true, false, cond, not, ◌==◌, ◌||◌, List, [], ◌∷◌, ◌++◌, Option, Some, None, codes, refl, sym, ◌∙◌, ap, subst, append_assoc}
+use Rattle.std.proofs.Common.{◌≡◌, ℕ, zero, suc, Bool, true, false, List, [], ◌∷◌, ◌++◌, Option, sym, ◌∙◌, ap, subst, append_assoc}
 use Rattle.cnf_grammar.specs.declared.brackets.Bracket.{Bracket}
-use Rattle.cnf_grammar.specs.declared.brackets.Bracket.TheVariants.{Round, Square}
-use Rattle.cnf_grammar.specs.declared.mode.Mode.{Mode}
-use Rattle.cnf_grammar.specs.declared.mode.Mode.TheVariants.{Statement, ClauseWord, NameStart, NameRead, RoleStart, RoleRead, FormulaStart, LiteralStart, AtomStart, WordRead, TermStart, TermRead, FormulaClosed, SourceStart, Source, InfoStart, Info, InfoClosed, ClauseClosed, IncludeWord, FileStart, FileRead, SelectionStart, SelectionOpen, SelectedStart, SelectedRead, SelectionClosed, IncludeClosed}
+use Rattle.cnf_grammar.specs.declared.mode.Mode.TheVariants.{FormulaStart, LiteralStart, AtomStart, WordRead, TermStart, TermRead, FormulaClosed}
 use Rattle.cnf_grammar.specs.declared.place.Place.{Place}
-use Rattle.cnf_grammar.specs.Shapes.{Shape, Lower, Upper, Quoted, Distinct, Dollar, Number, NotEqual, Punct, left_round, right_round, left_square, right_square, comma, dot, bar, tilde, is_mark, is_bracket}
-use Rattle.cnf_grammar.specs.Trees.{Word, bare_word, quoted_word, Name, word_name, number_name, FileName, bare_file, quoted_file, Term, variable, number, distinct, compound, Arguments, no_arguments, arguments, Terms, no_terms, then_term, Atom, truth, falsity, predicate, Literal, positive, negative, Formula, bracketed, disjunction, Balanced, no_tokens, then_token, then_group, Part, single, group, Annotations, no_annotations, annotations, Selection, every_clause, selected, clause, include}
-use Rattle.cnf_grammar.specs.Trees as trees
-use Rattle.cnf_grammar.specs.Spelling.{word_token, name_token, file_token, opening, closing, spell_term, spell_arguments, spell_terms, spell_atom, spell_literal, spell_literals, spell_formula, spell_balanced, spell_part, spell_parts, spell_source, spell_items, spell_info, spell_optional_info, spell_annotations, spell_more_names, spell_names, spell_selection, spell_statement, spell}
-use Rattle.cnf_grammar.specs.Table.{or_else, when, to, step, step_at, atom_start, literal_start, after_formula, after_literal, after_term, any_token, within}
+use Rattle.cnf_grammar.specs.Shapes.{Shape, Punct, left_round, right_round, bar, tilde, is_mark}
+use Rattle.cnf_grammar.specs.Trees.{bare_word, quoted_word, Term, variable, number, distinct, compound, Arguments, no_arguments, arguments, Terms, no_terms, then_term, Atom, truth, falsity, predicate, Literal, positive, negative}
+use Rattle.cnf_grammar.specs.Spelling.{spell_term, spell_arguments, spell_terms, spell_atom, spell_literal, spell_literals}
+use Rattle.cnf_grammar.specs.Table.{or_else, atom_start, literal_start, after_formula, after_term}
 use Rattle.cnf_grammar.proofs.Accepting.{place, AcceptsFrom, Accepts, passed, mark_is}
-use Rattle.cnf_grammar.proofs.Rests.{Next, next, One, one, Then, so, Inside, Closed, ClauseEnds, AfterSource, SourceParts, SourceStarts, InfoStarts, InfoItems, InfoParts, AfterFormula, FormulaStarts, AfterLiteral, LiteralStarts, AtomStarts, AfterTerm, AfterWord, TermStarts, AfterRole, AfterName, NameStarts, IncludeEnds, ListEnds, AfterSelected, SelectedStarts, ListStarts, AfterFile, FileStarts, rest_at}
 
 -- a test that holds, and one that does not
 pub taken : (test : Bool) (p : Place) (o : Option Place) (tokens : List Shape) → test ≡ true → Accepts p tokens → AcceptsFrom (or_else test p o) tokens

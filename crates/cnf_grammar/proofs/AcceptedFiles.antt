@@ -1,16 +1,16 @@
 -- What the trees at a place spell, the table accepts from there: formulas, statements and files.
-use Rattle.std.proofs.Common.{◌≡◌, ℕ, zero, suc, true, false, not, bytes_eq, List, [], ◌∷◌, ◌++◌, Option, Some, None, codes, refl, sym, ◌∙◌, ap, subst, append_assoc}
+use Rattle.std.proofs.Common.{◌≡◌, ℕ, zero, suc, not, bytes_eq, List, [], ◌∷◌, ◌++◌, Some, None, codes, refl, sym, ◌∙◌, ap, subst, append_assoc}
 use Rattle.cnf_grammar.specs.declared.brackets.Bracket.{Bracket}
 use Rattle.cnf_grammar.specs.declared.mode.Mode.{Mode}
 use Rattle.cnf_grammar.specs.declared.mode.Mode.TheVariants.{Statement, ClauseWord, NameStart, NameRead, RoleStart, RoleRead, FormulaStart, LiteralStart, AtomStart, WordRead, TermStart, TermRead, FormulaClosed, SourceStart, Source, InfoStart, Info, InfoClosed, ClauseClosed, IncludeWord, FileStart, FileRead, SelectionStart, SelectionOpen, SelectedStart, SelectedRead, SelectionClosed, IncludeClosed}
-use Rattle.cnf_grammar.specs.Shapes.{Shape, Lower, Quoted, Number, Punct, left_round, right_round, left_square, right_square, comma, dot}
+use Rattle.cnf_grammar.specs.Shapes.{Shape, Lower, Punct, left_round, right_round, left_square, right_square, comma, dot}
 use Rattle.cnf_grammar.specs.Trees.{Word, bare_word, quoted_word, Name, word_name, number_name, FileName, bare_file, quoted_file, Terms, Literal, Formula, bracketed, disjunction, Balanced, Part, Annotations, no_annotations, annotations, Selection, every_clause, selected, clause, include}
 use Rattle.cnf_grammar.specs.Trees as trees
-use Rattle.cnf_grammar.specs.Spelling.{word_token, name_token, file_token, closing, spell_term, spell_arguments, spell_terms, spell_atom, spell_literal, spell_literals, spell_formula, spell_balanced, spell_part, spell_parts, spell_source, spell_items, spell_info, spell_optional_info, spell_annotations, spell_more_names, spell_names, spell_selection, spell_statement, spell}
-use Rattle.cnf_grammar.proofs.Accepting.{place, AcceptsFrom, Accepts}
-use Rattle.cnf_grammar.proofs.Accepted.{taken, word_read, literal_read, literal_begins, formula_begins, accepts-term, accepts-arguments, accepts-terms, accepts-atom, accepts-literal, accepts-literals}
+use Rattle.cnf_grammar.specs.Spelling.{name_token, file_token, closing, spell_literal, spell_literals, spell_formula, spell_part, spell_parts, spell_source, spell_items, spell_info, spell_optional_info, spell_annotations, spell_more_names, spell_names, spell_selection, spell}
+use Rattle.cnf_grammar.proofs.Accepting.{place, Accepts}
+use Rattle.cnf_grammar.proofs.Accepted.{taken, literal_read, formula_begins, accepts-term, accepts-arguments, accepts-terms, accepts-atom, accepts-literal, accepts-literals}
 use Rattle.cnf_grammar.proofs.AcceptedNotes.{Annotates, closes, source_annotates, info_annotates, source_begins, inside_goes, accepts-balanced, accepts-part, accepts-source_parts, accepts-info_parts, accepts-items}
-use Rattle.cnf_grammar.proofs.Rests.{Next, next, One, one, Then, so, Inside, Closed, ClauseEnds, AfterSource, SourceParts, SourceStarts, InfoStarts, InfoItems, InfoParts, AfterFormula, FormulaStarts, AfterLiteral, LiteralStarts, AtomStarts, AfterTerm, AfterWord, TermStarts, AfterRole, AfterName, NameStarts, IncludeEnds, ListEnds, AfterSelected, SelectedStarts, ListStarts, AfterFile, FileStarts, rest_at}
+use Rattle.cnf_grammar.proofs.Rests.{Next, next, One, one, so, Inside, Closed, ClauseEnds, AfterSource, SourceParts, SourceStarts, InfoStarts, InfoItems, InfoParts, AfterFormula, FormulaStarts, AfterLiteral, LiteralStarts, AtomStarts, AfterTerm, AfterWord, TermStarts, AfterRole, AfterName, NameStarts, IncludeEnds, ListEnds, AfterSelected, SelectedStarts, ListStarts, AfterFile, FileStarts, rest_at}
 
 -- accepted between statements
 abbrev pub Goes : List Shape → Type 0

@@ -1,11 +1,11 @@
 -- What the table accepts from a place, and what its tests say of a token.
-use Rattle.std.proofs.Common.{◌≡◌, ℕ, zero, suc, Bool, true, false, cond, not, ◌==◌, ◌||◌, ◌⊎◌, inl, inr, List, [], ◌∷◌, ◌++◌, Option, Some, None, codes, refl, sym, ◌∙◌, ap, subst, bytes_eq, arith}
+use Rattle.std.proofs.Common.{◌≡◌, ℕ, Bool, true, false, not, ◌==◌, ◌⊎◌, inl, inr, List, [], ◌∷◌, Option, Some, None, codes, refl, sym, ap, subst, bytes_eq, arith}
 use Rattle.std.proofs.lemmas.Bool.Decides.{nat_tests}
 use Rattle.std.proofs.lemmas.Slice.Eq.{bytes_eq-Decides}
 use Rattle.cnf_grammar.specs.declared.brackets.Bracket.{Bracket}
 use Rattle.cnf_grammar.specs.declared.mode.Mode.{Mode}
 use Rattle.cnf_grammar.specs.declared.place.Place.{Place}
-use Rattle.cnf_grammar.specs.Shapes.{Shape, Lower, Upper, Quoted, Distinct, Dollar, Number, NotEqual, Punct, is_mark, is_bracket, is_keyword, is_defined, is_lower, is_word, is_name, is_simple_term, is_file_name}
+use Rattle.cnf_grammar.specs.Shapes.{Shape, Lower, Upper, Quoted, Distinct, Dollar, Number, NotEqual, Punct, is_mark, is_keyword, is_defined, is_lower, is_word, is_name, is_simple_term, is_file_name}
 use Rattle.cnf_grammar.specs.Trees.{Word, bare_word, quoted_word, Name, word_name, number_name, FileName, bare_file, quoted_file, Term, variable, number, distinct}
 use Rattle.cnf_grammar.specs.Spelling.{word_token, name_token, file_token, spell_term}
 use Rattle.cnf_grammar.specs.Table.{or_else, when, step, run_from, is_end}

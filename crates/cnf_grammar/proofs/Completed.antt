@@ -1,15 +1,14 @@
 -- From each place some tokens lead to an end.
-use Rattle.std.proofs.Common.{◌≡◌, ℕ, zero, suc, List, [], ◌∷◌, ◌++◌, Option, Some, None, refl}
+use Rattle.std.proofs.Common.{ℕ, zero, suc, List, [], ◌∷◌, ◌++◌, None, refl}
 use Rattle.cnf_grammar.specs.declared.brackets.Bracket.{Bracket}
 use Rattle.cnf_grammar.specs.declared.mode.Mode.{Mode}
 use Rattle.cnf_grammar.specs.declared.mode.Mode.TheVariants.{Statement, ClauseWord, NameStart, NameRead, RoleStart, RoleRead, FormulaStart, LiteralStart, AtomStart, WordRead, TermStart, TermRead, FormulaClosed, SourceStart, Source, InfoStart, Info, InfoClosed, ClauseClosed, IncludeWord, FileStart, FileRead, SelectionStart, SelectionOpen, SelectedStart, SelectedRead, SelectionClosed, IncludeClosed}
 use Rattle.cnf_grammar.specs.declared.place.Place.{Place}
 use Rattle.cnf_grammar.specs.Shapes.{Shape, Lower, NotEqual, Punct, left_round, right_round, left_square, right_square, comma, dot}
-use Rattle.cnf_grammar.specs.Trees.{Word, bare_word, Name, word_name, FileName, bare_file, Term, variable, no_arguments, no_terms, Atom, truth, positive, Formula, disjunction, no_tokens, single, no_annotations, every_clause}
-use Rattle.cnf_grammar.specs.Trees as trees
+use Rattle.cnf_grammar.specs.Trees.{bare_word, word_name, bare_file, variable, no_arguments, no_terms, truth, positive, disjunction, no_tokens, single, no_annotations, every_clause}
 use Rattle.cnf_grammar.specs.Spelling.{closing, name_token, file_token, spell_term, spell_arguments, spell_terms, spell_atom, spell_literal, spell_literals, spell_formula, spell_balanced, spell_parts, spell_source, spell_items, spell_info, spell_optional_info, spell_annotations, spell_more_names, spell_names, spell_selection}
-use Rattle.cnf_grammar.proofs.Accepting.{place, Accepts}
-use Rattle.cnf_grammar.proofs.Rests.{Next, next, One, one, Then, so, Inside, Closed, ClauseEnds, AfterSource, SourceParts, SourceStarts, InfoStarts, InfoItems, InfoParts, AfterFormula, FormulaStarts, AfterLiteral, LiteralStarts, AtomStarts, AfterTerm, AfterWord, TermStarts, AfterRole, AfterName, NameStarts, IncludeEnds, ListEnds, AfterSelected, SelectedStarts, ListStarts, AfterFile, FileStarts, rest_at}
+use Rattle.cnf_grammar.proofs.Accepting.{Accepts}
+use Rattle.cnf_grammar.proofs.Rests.{Next, next, One, one, Then, so, Inside, Closed, ClauseEnds, AfterSource, SourceParts, InfoItems, InfoParts, AfterFormula, FormulaStarts, AfterLiteral, AfterTerm, AfterRole, AfterName, NameStarts, IncludeEnds, ListEnds, AfterSelected, ListStarts, AfterFile, FileStarts, rest_at}
 use Rattle.cnf_grammar.proofs.AcceptedFiles.{Goes, accepts-rest}
 
 -- some tokens of which K holds

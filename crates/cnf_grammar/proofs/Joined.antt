@@ -1,12 +1,12 @@
 -- The laws that join the table to the grammar.
-use Rattle.std.proofs.Common.{◌≡◌, ℕ, Bool, true, false, List, [], ◌∷◌, ◌++◌, Option, Some, None, is_some, IsSome, IsNone, ◌↔◌, refl, sym, ◌∙◌, ap, subst, append_assoc}
+use Rattle.std.proofs.Common.{◌≡◌, Bool, true, false, List, [], ◌∷◌, ◌++◌, Option, Some, None, is_some, IsSome, ◌↔◌, refl, sym, ◌∙◌, ap, subst}
 use Rattle.cnf_grammar.specs.declared.place.Place.{Place}
 use Rattle.cnf_grammar.specs.Shapes.{Shape}
 use Rattle.cnf_grammar.specs.Trees.{Statement}
 use Rattle.cnf_grammar.specs.Spelling.{spell, IsFile, IsFront}
 use Rattle.cnf_grammar.specs.Table.{step, run_from, run, start, is_end}
 use Rattle.cnf_grammar.specs.Laws.{LeadsToEnd, IsFirstFault, StopsAt}
-use Rattle.cnf_grammar.proofs.Accepting.{AcceptsFrom, Accepts, accepts-run, run-accepts}
+use Rattle.cnf_grammar.proofs.Accepting.{accepts-run, run-accepts}
 use Rattle.cnf_grammar.proofs.AcceptedFiles.{accepts-file}
 use Rattle.cnf_grammar.proofs.SpelledFiles.{rest_accepted}
 use Rattle.cnf_grammar.proofs.Completed.{completed}

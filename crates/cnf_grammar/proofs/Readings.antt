@@ -1,10 +1,10 @@
 -- What small statements say, as worked by hand.
-use Rattle.std.proofs.Common.{◌≡◌, ℕ, suc, Bool, true, false, List, [], ◌∷◌, ◌++◌, Option, Some, None, codes, refl}
+use Rattle.std.proofs.Common.{◌≡◌, true, false, [], ◌∷◌, Some, None, codes, refl}
 use Rattle.cnf_grammar.specs.declared.brackets.Bracket.TheVariants.{Round, Square}
-use Rattle.cnf_grammar.specs.Shapes.{Shape, Lower, Quoted, Number, Punct, left_round, right_round, left_square, right_square, comma}
-use Rattle.cnf_grammar.specs.Trees.{bare_word, quoted_word, word_name, number_name, bare_file, quoted_file, variable, number, distinct, compound, no_arguments, arguments, no_terms, then_term, truth, falsity, predicate, Literal, positive, negative, Formula, bracketed, disjunction, no_tokens, then_token, then_group, Part, single, group, Info, Annotations, no_annotations, annotations, every_clause, selected, clause, include}
-use Rattle.cnf_grammar.specs.Conclude.{literals_of, items_of, gives_conclusions, conclude_item, rises_above, names_literal, conclusions_of}
-use Rattle.cnf_grammar.specs.Meaning.{unquoted, word_kind, integer_kind, distinct_kind, symbol_item, variable_item, variables_of, always, never, signed, clause_literal, meaning, read_include}
+use Rattle.cnf_grammar.specs.Shapes.{Lower, Number, Punct, left_round, right_round, left_square, right_square, comma}
+use Rattle.cnf_grammar.specs.Trees.{bare_word, quoted_word, quoted_file, variable, compound, no_arguments, arguments, no_terms, then_term, truth, falsity, predicate, positive, negative, Formula, bracketed, disjunction, no_tokens, then_token, then_group, single, group, Annotations, annotations, every_clause, include}
+use Rattle.cnf_grammar.specs.Conclude.{conclude_item, rises_above, names_literal, conclusions_of}
+use Rattle.cnf_grammar.specs.Meaning.{unquoted, word_kind, symbol_item, variable_item, variables_of, never, signed, clause_literal, meaning, read_include}
 
 -- 'it\'s' is it's
 escaped_quote : unquoted (39 ∷ (105 ∷ (116 ∷ (92 ∷ (39 ∷ (115 ∷ (39 ∷ []))))))) ≡ codes "it's"

@@ -1,17 +1,13 @@
 -- What the table accepts from a place, trees at that place spell: one token more.
-use Rattle.std.proofs.Common.{◌≡◌, ℕ, zero, suc, Bool, true, false, cond, not, ◌==◌, ◌||◌, ◌⊎◌, inl, inr, List, [], ◌∷◌, ◌++◌, Option, Some, None, codes, refl, sym, ◌∙◌, ap, subst, append_assoc}
+use Rattle.std.proofs.Common.{◌≡◌, ℕ, suc, Bool, true, false, List, [], ◌∷◌, ◌++◌, Option, Some, None, refl, sym, ◌∙◌, ap, subst, append_assoc}
 use Rattle.cnf_grammar.specs.declared.brackets.Bracket.{Bracket}
-use Rattle.cnf_grammar.specs.declared.brackets.Bracket.TheVariants.{Round, Square}
-use Rattle.cnf_grammar.specs.declared.mode.Mode.{Mode}
-use Rattle.cnf_grammar.specs.declared.mode.Mode.TheVariants.{Statement, ClauseWord, NameStart, NameRead, RoleStart, RoleRead, FormulaStart, LiteralStart, AtomStart, WordRead, TermStart, TermRead, FormulaClosed, SourceStart, Source, InfoStart, Info, InfoClosed, ClauseClosed, IncludeWord, FileStart, FileRead, SelectionStart, SelectionOpen, SelectedStart, SelectedRead, SelectionClosed, IncludeClosed}
 use Rattle.cnf_grammar.specs.declared.place.Place.{Place}
-use Rattle.cnf_grammar.specs.Shapes.{Shape, Lower, Upper, Quoted, Distinct, Dollar, Number, NotEqual, Punct, left_round, right_round, left_square, right_square, comma, dot, bar, tilde, is_mark, is_bracket, is_keyword, is_defined, is_lower, is_word, is_name, is_simple_term, is_file_name}
-use Rattle.cnf_grammar.specs.Trees.{Word, Name, FileName, Term, compound, Arguments, no_arguments, arguments, Terms, no_terms, then_term, Atom, truth, falsity, predicate, Literal, positive, negative, Formula, bracketed, disjunction, Balanced, no_tokens, then_token, then_group, Part, single, group, Annotations, no_annotations, annotations, Selection, every_clause, selected, clause, include}
-use Rattle.cnf_grammar.specs.Trees as trees
-use Rattle.cnf_grammar.specs.Spelling.{word_token, name_token, file_token, opening, closing, spell_term, spell_arguments, spell_terms, spell_atom, spell_literal, spell_literals, spell_formula, spell_balanced, spell_part, spell_parts, spell_source, spell_items, spell_info, spell_optional_info, spell_annotations, spell_more_names, spell_names, spell_selection, spell_statement, spell, IsFile}
-use Rattle.cnf_grammar.specs.Table.{or_else, when, to, step, step_at, between, atom_start, literal_start, formula_start, after_formula, after_literal, after_term, after_word, term_start, any_token, within, source_start, in_source, in_info, after_file, selection_open, after_selected}
-use Rattle.cnf_grammar.proofs.Accepting.{place, AcceptsFrom, chosen, chosen-when, mark_is, keyword_is, defined_is, lower_is, word_is, name_is, simple_is, negated, file_name_is}
-use Rattle.cnf_grammar.proofs.Rests.{Next, next, One, one, Then, so, Inside, Closed, ClauseEnds, AfterSource, SourceParts, SourceStarts, InfoStarts, InfoItems, InfoParts, AfterFormula, FormulaStarts, AfterLiteral, LiteralStarts, AtomStarts, AfterTerm, AfterWord, TermStarts, AfterRole, AfterName, NameStarts, IncludeEnds, ListEnds, AfterSelected, SelectedStarts, ListStarts, AfterFile, FileStarts, rest_at, RestFrom}
+use Rattle.cnf_grammar.specs.Shapes.{Shape, Punct, left_round, right_round, left_square, right_square, comma, bar, tilde, is_mark, is_bracket}
+use Rattle.cnf_grammar.specs.Trees.{Word, Name, compound, arguments, then_term, predicate, positive, negative, bracketed, disjunction, then_token, then_group, group, annotations, selected}
+use Rattle.cnf_grammar.specs.Spelling.{word_token, name_token, opening, closing, spell_term, spell_terms, spell_literal, spell_literals, spell_formula, spell_balanced, spell_part, spell_parts, spell_source, spell_items, spell_optional_info, spell_names}
+use Rattle.cnf_grammar.specs.Table.{or_else, when}
+use Rattle.cnf_grammar.proofs.Accepting.{chosen-when, mark_is}
+use Rattle.cnf_grammar.proofs.Rests.{Next, next, One, one, Then, so, Inside, AfterSource, SourceParts, SourceStarts, InfoStarts, InfoItems, InfoParts, AfterFormula, FormulaStarts, AfterLiteral, LiteralStarts, AtomStarts, AfterTerm, AfterWord, TermStarts, AfterSelected, SelectedStarts, ListStarts, AfterFile, RestFrom}
 
 -- what is said of an equal list
 pub along : (K : List Shape → Type 0) {xs ys : List Shape} → xs ≡ ys → K xs → K ys

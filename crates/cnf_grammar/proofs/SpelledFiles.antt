@@ -1,17 +1,16 @@
 -- What the table accepts from a place, trees at that place spell.
-use Rattle.std.proofs.Common.{◌≡◌, ℕ, zero, suc, Bool, true, false, cond, not, ◌||◌, ◌⊎◌, inl, inr, List, [], ◌∷◌, ◌++◌, Option, Some, None, codes, refl, sym, ◌∙◌, ap, subst, append_assoc}
+use Rattle.std.proofs.Common.{◌≡◌, ℕ, zero, suc, Bool, true, false, cond, not, ◌||◌, ◌⊎◌, inl, inr, List, [], ◌∷◌, ◌++◌, Option, Some, None, codes, refl, sym, ◌∙◌, ap, append_assoc}
 use Rattle.cnf_grammar.specs.declared.brackets.Bracket.{Bracket}
 use Rattle.cnf_grammar.specs.declared.brackets.Bracket.TheVariants.{Round, Square}
 use Rattle.cnf_grammar.specs.declared.mode.Mode.{Mode}
 use Rattle.cnf_grammar.specs.declared.mode.Mode.TheVariants.{Statement, ClauseWord, NameStart, NameRead, RoleStart, RoleRead, FormulaStart, LiteralStart, AtomStart, WordRead, TermStart, TermRead, FormulaClosed, SourceStart, Source, InfoStart, Info, InfoClosed, ClauseClosed, IncludeWord, FileStart, FileRead, SelectionStart, SelectionOpen, SelectedStart, SelectedRead, SelectionClosed, IncludeClosed}
 use Rattle.cnf_grammar.specs.declared.place.Place.{Place}
 use Rattle.cnf_grammar.specs.Shapes.{Shape, Lower, Dollar, Punct, left_round, right_round, left_square, right_square, comma, dot, bar, tilde, is_mark, is_bracket, is_keyword, is_defined, is_lower, is_word, is_name, is_simple_term, is_file_name}
-use Rattle.cnf_grammar.specs.Trees.{Word, Name, FileName, no_arguments, no_terms, truth, falsity, no_tokens, single, no_annotations, every_clause, clause, include}
-use Rattle.cnf_grammar.specs.Trees as trees
-use Rattle.cnf_grammar.specs.Spelling.{word_token, name_token, file_token, opening, closing, spell_term, spell_arguments, spell_terms, spell_atom, spell_literal, spell_literals, spell_formula, spell_balanced, spell_part, spell_parts, spell_source, spell_items, spell_info, spell_optional_info, spell_annotations, spell_more_names, spell_names, spell_selection, spell_statement, spell, IsFile}
-use Rattle.cnf_grammar.specs.Table.{or_else, when, to, step, step_at, between, atom_start, literal_start, formula_start, after_formula, after_literal, after_term, after_word, term_start, any_token, within, source_start, in_source, in_info, after_file, selection_open, after_selected}
+use Rattle.cnf_grammar.specs.Trees.{no_arguments, no_terms, truth, falsity, no_tokens, single, no_annotations, every_clause, clause, include}
+use Rattle.cnf_grammar.specs.Spelling.{word_token, name_token, file_token, closing, spell_formula, spell_part, spell_annotations, spell_selection, spell, IsFile}
+use Rattle.cnf_grammar.specs.Table.{or_else, when, to, step, step_at, between, atom_start, literal_start, formula_start, after_formula, after_literal, after_term, after_word, term_start, any_token, within, in_source, in_info, after_file, selection_open, after_selected}
 use Rattle.cnf_grammar.proofs.Accepting.{place, AcceptsFrom, Accepts, chosen-when, mark_is, keyword_is, defined_is, lower_is, word_is, name_is, simple_is, negated, file_name_is}
-use Rattle.cnf_grammar.proofs.Rests.{Next, next, One, one, Then, so, Inside, Closed, ClauseEnds, AfterSource, SourceParts, SourceStarts, InfoStarts, InfoItems, InfoParts, AfterFormula, FormulaStarts, AfterLiteral, LiteralStarts, AtomStarts, AfterTerm, AfterWord, TermStarts, AfterRole, AfterName, NameStarts, IncludeEnds, ListEnds, AfterSelected, SelectedStarts, ListStarts, AfterFile, FileStarts, rest_at, RestFrom}
+use Rattle.cnf_grammar.proofs.Rests.{Next, next, one, Then, so, Inside, ClauseEnds, AfterSource, SourceParts, SourceStarts, InfoStarts, InfoItems, InfoParts, AfterFormula, FormulaStarts, AfterLiteral, LiteralStarts, AtomStarts, AfterTerm, AfterWord, TermStarts, NameStarts, AfterSelected, ListStarts, AfterFile, FileStarts, rest_at, RestFrom}
 use Rattle.cnf_grammar.proofs.Spelled.{along, at_token, none, wanted, wanted_one, either, formula_in_brackets, formula_of_literals, literal_negated, literal_of_atom, atom_of_word, literal_more, term_of_word, term_more, arguments_open, notes_open, info_follows, source_begun, info_open, item_more, selection_follows, name_listed, name_more, parts_more, part_group, inner_group, inner_token}
 
 pub two : (b : Bool) → (b ≡ true) ⊎ (b ≡ false)

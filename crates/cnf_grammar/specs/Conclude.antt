@@ -1,8 +1,8 @@
 -- Which items of an info give conclusions, and when such an item is right.
-use Rattle.std.specs.Prelude.{◌≡◌, ℕ, zero, suc, Bool, true, false, cond, not, ◌&&◌, ◌<◌, nat_lt, List, [], ◌∷◌, ◌++◌, Option, Some, None, map, filter, filter_map, length, codes, decimal, All}
+use Rattle.std.specs.Prelude.{◌≡◌, ℕ, zero, suc, Bool, true, false, ◌&&◌, nat_lt, List, [], ◌∷◌, ◌++◌, Option, Some, None, map, filter, filter_map, codes, decimal, All}
 use Rattle.std.specs.Str.Parse.{digits_value}
 use Rattle.cnf_grammar.specs.Shapes.{Shape, Lower, Number, Punct, left_round, right_round, left_square, right_square, comma, is_keyword, is_mark}
-use Rattle.cnf_grammar.specs.Trees.{Atom, truth, falsity, predicate, Literal, positive, negative, Formula, bracketed, disjunction, Part, Info, Annotations, no_annotations, annotations, Statement, clause, include}
+use Rattle.cnf_grammar.specs.Trees.{predicate, Literal, positive, negative, Formula, bracketed, disjunction, Info, Annotations, no_annotations, annotations}
 use Rattle.cnf_grammar.specs.Spelling.{spell_parts}
 
 -- the literals of a formula, as written

@@ -1,9 +1,9 @@
 -- What joins the table to the grammar.
-use Rattle.std.specs.Prelude.{◌≡◌, ℕ, true, List, [], ◌∷◌, ◌++◌, Option, Some, None, IsSome, IsNone, ◌↔◌}
+use Rattle.std.specs.Prelude.{◌≡◌, true, List, [], ◌∷◌, ◌++◌, Some, IsSome, IsNone}
 use Rattle.cnf_grammar.specs.declared.place.Place.{Place}
 use Rattle.cnf_grammar.specs.Shapes.{Shape}
-use Rattle.cnf_grammar.specs.Spelling.{IsFile, IsFront}
-use Rattle.cnf_grammar.specs.Table.{step, run, start, is_end}
+use Rattle.cnf_grammar.specs.Spelling.{IsFront}
+use Rattle.cnf_grammar.specs.Table.{run, start, is_end}
 
 -- the tokens lead from the place to one where a file may end
 abbrev pub LeadsToEnd : Place → List Shape → Type 0

@@ -1,6 +1,6 @@
 -- What a statement says: names, literals with their symbols and variables, conclusions, files.
-use Rattle.std.specs.Prelude.{◌≡◌, ℕ, zero, suc, ◌-◌, Bool, true, false, cond, not, ◌==◌, List, [], ◌∷◌, ◌++◌, Option, Some, None, map, filter, flat_map, length, take, drop, bytes_eq}
-use Rattle.cnf_grammar.specs.Trees.{Word, bare_word, quoted_word, Name, word_name, number_name, FileName, bare_file, quoted_file, Term, variable, number, distinct, compound, Arguments, no_arguments, arguments, Terms, no_terms, then_term, Atom, truth, falsity, predicate, Literal, positive, negative, Formula, bracketed, disjunction, Annotations, Selection, every_clause, selected, Statement, clause, include}
+use Rattle.std.specs.Prelude.{ℕ, suc, ◌-◌, Bool, true, false, cond, not, ◌==◌, List, [], ◌∷◌, ◌++◌, Option, Some, None, map, filter, flat_map, length, take, drop, bytes_eq}
+use Rattle.cnf_grammar.specs.Trees.{Word, bare_word, quoted_word, Name, word_name, number_name, FileName, bare_file, quoted_file, Term, variable, number, distinct, compound, Arguments, no_arguments, arguments, Terms, no_terms, then_term, Atom, truth, falsity, predicate, Literal, positive, negative, Formula, Annotations, Selection, every_clause, selected, Statement, clause, include}
 use Rattle.cnf_grammar.specs.Conclude.{literals_of, conclusions_of}
 
 -- the bytes behind a backslash that may still be open, with one byte for each pair that a backslash begins
