@@ -9,3 +9,4 @@ mod Completed
 mod Joined
 mod Examples
 mod Readings
+mod OneTerm
