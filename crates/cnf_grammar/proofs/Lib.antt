@@ -10,3 +10,4 @@ mod Joined
 mod Examples
 mod Readings
 mod OneTerm
+mod OneFile

@@ -41,3 +41,8 @@ pub fn place_tells_what_may_come()
     ensures stop { (tokens : List Shape) (p : Place) (s : Shape) → run start tokens ≡ Some p → (step p s ≡ None) ↔ (IsFront (tokens ++ s ∷ []) → ⊥) }
     ensures end { (tokens : List Shape) (p : Place) → run start tokens ≡ Some p → (is_end p ≡ true) ↔ IsFile tokens }
 {}
+
+/// No two trees spell the same tokens, so tokens have at most one meaning.
+pub fn each_file_has_one_tree()
+    ensures { (file other : List Statement) → spell file ≡ spell other → file ≡ other }
+{}
