@@ -11,3 +11,5 @@ mod Examples
 mod Readings
 mod OneTerm
 mod OneFile
+mod Variables
+mod Collected

@@ -7,3 +7,4 @@ pub mod Seen
 pub mod Moving
 pub mod Conclude
 pub mod Meaning
+pub mod Draft

@@ -91,7 +91,7 @@ variables_of_literal (negative atom) = variables_of_atom atom
 -- each text once, in order of first occurrence
 abbrev pub each_once : List (List ℕ) → List (List ℕ)
 each_once [] = []
-each_once (text ∷ more) = text ∷ filter (λ other. not (bytes_eq other text)) (each_once more)
+each_once (text ∷ more) = text ∷ filter (λ other. not (bytes_eq text other)) (each_once more)
 
 -- the variables of a clause, in order of first occurrence in its literals
 abbrev pub variables_of : Formula → List (List ℕ)
