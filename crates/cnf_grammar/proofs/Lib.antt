@@ -13,3 +13,4 @@ mod OneTerm
 mod OneFile
 mod Variables
 mod Collected
+mod Drafted
