@@ -122,8 +122,10 @@ pub collects-formula : (formula : Formula) (level depth : ℕ) (brackets : List 
 collects-formula (bracketed formula) level depth brackets d rest f =
     let h = collects-formula formula (suc level) depth brackets d (Punct right_round ∷ rest) ends_round in
     (h.0, ap (collect_from (Some (place FormulaStart (suc level) depth brackets)) d) (append_assoc (spell_formula formula) (Punct right_round ∷ []) rest) ∙ h.1)
-collects-formula (disjunction first more) level depth brackets d rest f =
-    (0, ap (collect_from (Some (place FormulaStart level depth brackets)) d) (append_assoc (spell_literal first) (spell_literals more) rest)
-    ∙ (formula_as_literal first level depth brackets d (spell_literals more ++ rest)
-    ∙ (collects-literal first level depth brackets d (spell_literals more ++ rest) (literals_follow more rest f)
-    ∙ collects-literals more level brackets (add_literal first d) rest f)))
+collects-formula (disjunction first more) level depth brackets d rest f = (
+  0,
+  ap (collect_from (Some (place FormulaStart level depth brackets)) d) (append_assoc (spell_literal first) (spell_literals more) rest)
+      ∙ (formula_as_literal first level depth brackets d (spell_literals more ++ rest)
+      ∙ (collects-literal first level depth brackets d (spell_literals more ++ rest) (literals_follow more rest f)
+      ∙ collects-literals more level brackets (add_literal first d) rest f)),
+)

@@ -47,7 +47,7 @@ push_symbol kind text d = push_item (symbol_item (record { kind = kind; text = t
 abbrev pub push_variable : List ℕ → Draft → Draft
 push_variable text d = record d {
   atom = d.atom ++ variable_item (index_of (with_variable d.variables text) text) ∷ [];
-  variables = with_variable d.variables text
+  variables = with_variable d.variables text;
 }
 
 -- one more argument of the symbol at this place
@@ -61,7 +61,7 @@ add_argument (suc place) (item ∷ items) = item ∷ add_argument place items
 abbrev pub first_argument : Draft → Draft
 first_argument d = record d {
   atom = add_argument (pred (length d.atom)) d.atom;
-  open_words = pred (length d.atom) ∷ d.open_words
+  open_words = pred (length d.atom) ∷ d.open_words;
 }
 
 -- a further argument of the innermost open word begins

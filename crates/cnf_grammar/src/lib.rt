@@ -14,8 +14,9 @@ mod tests;
 
 pub use brackets::{Bracket, Brackets};
 pub use laws::{
-    each_file_has_one_tree, each_file_is_accepted, each_place_can_be_completed, fronts_lead_on,
-    only_files_are_accepted, place_tells_what_may_come, stops_at_first_fault,
+    each_file_has_one_tree, each_file_is_accepted, each_formula_leaves_its_literals,
+    each_place_can_be_completed, fronts_lead_on, only_files_are_accepted,
+    place_tells_what_may_come, stops_at_first_fault,
 };
 pub use lexeme::Lexeme;
 pub use mode::Mode;
