@@ -1,29 +1,10 @@
 -- The table of an item of an info: where its tokens lead, as long as it can still be right.
 use Rattle.std.specs.Prelude.{◌≡◌, ℕ, zero, suc, Bool, true, false, cond, ◌&&◌, ◌||◌, List, [], ◌∷◌, Option, Some, None, codes}
 use Rattle.std.specs.Str.Parse.{digits_value}
+use Rattle.cnf_grammar.specs.declared.item.ItemPlace.{ItemPlace}
+pub use Rattle.cnf_grammar.specs.declared.item.ItemPlace.TheVariants.{Start as item_start, WordRead as word_read, Open as item_open, ListOpen as list_open, NumberRead as number_read, NumberStart as number_start, ListClosed as list_closed, Closed as item_closed, Other as other_item}
 use Rattle.cnf_grammar.specs.Shapes.{Shape, Number, left_round, right_round, left_square, right_square, comma, is_keyword, is_mark}
 use Rattle.cnf_grammar.specs.Conclude.{may_follow}
-
--- where a reader stands in an item
-pub data ItemPlace : Type 0 where
-  -- nothing was read
-  item_start : ItemPlace
-  -- conclude
-  word_read : ItemPlace
-  -- conclude(
-  item_open : ItemPlace
-  -- conclude([
-  list_open : ItemPlace
-  -- behind a number, the last one
-  number_read : (last : ℕ) → ItemPlace
-  -- behind the comma after the last number
-  number_start : (last : ℕ) → ItemPlace
-  -- behind ]
-  list_closed : ItemPlace
-  -- behind ]) where the item must end
-  item_closed : ItemPlace
-  -- in an item that is passed over
-  other_item : ItemPlace
 
 -- whether a number above the last one names a literal that has a word
 abbrev pub names_above : List Bool → ℕ → Bool
