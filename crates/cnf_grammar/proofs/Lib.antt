@@ -15,3 +15,4 @@ mod Variables
 mod Collected
 mod Drafted
 mod ItemLaws
+mod ItemNumbers
