@@ -1,14 +1,12 @@
 -- Reading the tokens of a formula adds what the formula's tree says.
-use Rattle.std.proofs.Common.{◌≡◌, ℕ, zero, suc, pred, Bool, true, false, cond, ◌+◌, List, [], ◌∷◌, ◌++◌, Option, Some, None, map, flat_map, length, codes, bytes_eq, refl, sym, ◌∙◌, ap, ap₂, subst, append_assoc, append-nil, arith}
+use Rattle.std.proofs.Common.{◌≡◌, ℕ, zero, suc, true, false, List, [], ◌∷◌, ◌++◌, Some, refl, ◌∙◌, ap, append_assoc}
 use Rattle.cnf_grammar.specs.declared.brackets.Bracket.{Bracket}
 use Rattle.cnf_grammar.specs.declared.mode.Mode.TheVariants.{FormulaStart, LiteralStart, AtomStart, WordRead, TermStart, TermRead, FormulaClosed}
-use Rattle.cnf_grammar.specs.declared.place.Place.{Place}
-use Rattle.cnf_grammar.specs.Shapes.{Shape, Lower, Quoted, Punct, left_round, right_round, comma, bar}
-use Rattle.cnf_grammar.specs.Trees.{Word, bare_word, quoted_word, Term, variable, number, distinct, compound, Arguments, no_arguments, arguments, Terms, no_terms, then_term, Atom, truth, falsity, predicate, Literal, positive, negative, Formula, bracketed, disjunction}
-use Rattle.cnf_grammar.specs.Spelling.{word_token, spell_term, spell_arguments, spell_terms, spell_atom, spell_literal, spell_literals, spell_formula}
-use Rattle.cnf_grammar.specs.Conclude.{literals_of}
-use Rattle.cnf_grammar.specs.Meaning.{unquoted, Kind, word_kind, integer_kind, distinct_kind, word_text, Symbol, Item, symbol_item, variable_item, symbol_of, count_terms, count_arguments, variables_of_term, variables_of_arguments, variables_of_terms, variables_of_literal, variables_of, index_of, items_of_term, items_of_arguments, items_of_terms, ClauseLiteral, always, never, signed, clause_literal}
-use Rattle.cnf_grammar.specs.Draft.{Draft, empty_draft, with_variable, push_symbol, push_variable, add_argument, first_argument, next_argument, close_arguments, push_constant, finish, collect_from, draft_of}
+use Rattle.cnf_grammar.specs.Shapes.{Shape, Punct, right_round}
+use Rattle.cnf_grammar.specs.Trees.{bare_word, quoted_word, Term, variable, number, distinct, compound, Arguments, no_arguments, arguments, Terms, no_terms, then_term, Atom, truth, falsity, predicate, Literal, positive, negative, Formula, bracketed, disjunction}
+use Rattle.cnf_grammar.specs.Spelling.{spell_term, spell_arguments, spell_terms, spell_atom, spell_literal, spell_literals, spell_formula}
+use Rattle.cnf_grammar.specs.Meaning.{unquoted, word_kind, integer_kind, distinct_kind, word_text}
+use Rattle.cnf_grammar.specs.Draft.{Draft, push_symbol, push_variable, first_argument, next_argument, close_arguments, push_constant, finish, collect_from}
 use Rattle.cnf_grammar.proofs.Accepting.{place}
 use Rattle.cnf_grammar.proofs.OneTerm.{Follows, follows_comma, follows_round, follows_bar, Ends, ends_comma, ends_round}
 

@@ -1,5 +1,5 @@
 -- Numbers of an item, over plain lists.
-use Rattle.std.proofs.Common.{◌≡◌, ℕ, zero, suc, ◌+◌, ◌-◌, ◌*◌, ◌<◌, ◌≤◌, Bool, true, false, ◌||◌, ◌&&◌, nat_lt, List, [], ◌∷◌, length, get_or, drop, Option, Some, None, refl, sym, ◌∙◌, ap, arith}
+use Rattle.std.proofs.Common.{◌≡◌, ℕ, zero, suc, ◌+◌, ◌-◌, ◌*◌, ◌<◌, ◌≤◌, Bool, true, false, ◌&&◌, nat_lt, List, [], ◌∷◌, length, get_or, drop, None, refl, sym, ◌∙◌, ap, arith}
 use Rattle.std.proofs.Math.Seq.{drop-cons}
 use Rattle.std.proofs.lemmas.Bool.Decides.{nat_tests}
 use Rattle.std.specs.Str.Parse.{digits_value, digits_value_after}
@@ -54,7 +54,7 @@ pub past : (text : List ℕ) (i n most : ℕ) → i < length text → digits_val
 past text i n most h same more =
     let grown = digits_grow (n * 10 + digit_value (get_or text i 0)) (drop (suc i) text) in
     let all : digits_value_after 10 (n * 10 + digit_value (get_or text i 0)) (drop (suc i) text) ≡ digits_value 10 text =
-        sym (ap (digits_value_after 10 n) (drop-cons text i 0 h)) ∙ same in
+    sym (ap (digits_value_after 10 n) (drop-cons text i 0 h)) ∙ same in
     omega (arith, grown, all, more)
 
 -- a number past the literals names none

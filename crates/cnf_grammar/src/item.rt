@@ -81,7 +81,11 @@ fn word_or_other(token: &Lexeme) -> ItemPlace
 fn open_or_other(token: &Lexeme) -> ItemPlace
     ensures { Some result ≡ item_step [] word_read (seen token.now) }
 {
-    if token.is_mark(b'(') { ItemPlace::Open } else { ItemPlace::Other }
+    if token.is_mark(b'(') {
+        ItemPlace::Open
+    } else {
+        ItemPlace::Other
+    }
 }
 
 fn list_open(words: &[bool], token: &Lexeme) -> Option<ItemPlace>
@@ -125,7 +129,10 @@ fn number_of(words: &[bool], last: u32, text: &[u8], plain: bool) -> Option<Item
         return None;
     }
     match number_up_to(text, words.len() as u32) {
-        Some(number) => place_if(may_follow(words, last, number), ItemPlace::NumberRead(number)),
+        Some(number) => place_if(
+            may_follow(words, last, number),
+            ItemPlace::NumberRead(number),
+        ),
         None => None,
     }
 }

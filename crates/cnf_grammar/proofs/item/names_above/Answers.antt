@@ -10,7 +10,8 @@ loop-place-preserved c =
     let i = c.loop-place.place in
     let within : i < length c.args.words.now = omega arith in
     let none : c.args.last ≤ i → get_or c.args.words.now i false ≡ false =
-        elim c.else-last-place.branch [
-          else-last-place-via-then-last-place+else-word w ↦ λ h. w.if-word.false
-        | else-last-place-via-else-last-place w ↦ λ h. absurd (omega arith) ] in
+    elim c.else-last-place.branch [
+      | else-last-place-via-then-last-place+else-word w ↦ λ h. w.if-word.false
+      | else-last-place-via-else-last-place w ↦ λ h. absurd (omega arith)
+    ] in
     step_over c.args.words.now c.args.last i (names_above c.args.words.now c.args.last) within none c.loop-place.invariant

@@ -1,5 +1,5 @@
 -- Past the number of literals no number names one.
-use Rattle.std.proofs.Common.{length, arith}
+use Rattle.std.proofs.Common.{arith}
 use Rattle.cnf_grammar.proofs.ItemNumbers.{number_none}
 use Rattle.cnf_grammar.proofs.item.number_of.Goals as goal
 

@@ -1,5 +1,5 @@
 -- A number past the most stays past it.
-use Rattle.std.proofs.Common.{◌≡◌, ◌+◌, ◌*◌, ◌<◌, length, get_or, arith}
+use Rattle.std.proofs.Common.{◌+◌, ◌*◌, ◌<◌, length, get_or, arith}
 use Rattle.std.specs.Char.{digit_value}
 use Rattle.cnf_grammar.proofs.ItemNumbers.{past}
 use Rattle.cnf_grammar.proofs.item.number_up_to.Goals as goal
