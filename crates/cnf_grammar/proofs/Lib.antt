@@ -14,5 +14,7 @@ mod OneFile
 mod Variables
 mod Collected
 mod Drafted
+mod Notes
 mod ItemLaws
 mod ItemNumbers
+mod Whole

@@ -135,16 +135,6 @@ collect_at TermStart depth s d = begin_term s d
 collect_at TermRead depth s d = end_term depth s d
 collect_at _ depth s d = d
 
--- what a token adds, read at a place
-abbrev pub collect : Place → Shape → Draft → Draft
-collect p s d = collect_at p.mode p.depth s d
-
--- what tokens add, read from a place on
-abbrev pub collect_from : Option Place → Draft → List Shape → Draft
-collect_from None d tokens = d
-collect_from (Some p) d [] = d
-collect_from (Some p) d (s ∷ tokens) = collect_from (step p s) (collect p s d) tokens
-
 -- the literals and variables of a formula, whole
 abbrev pub draft_of : Formula → Draft
 draft_of formula = record empty_draft { literals = map (clause_literal (variables_of formula)) (literals_of formula); variables = variables_of formula }
