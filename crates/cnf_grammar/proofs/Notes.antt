@@ -1,6 +1,6 @@
 -- Annotations lead on as they are spelled, whatever is kept of their tokens. P says what holds where these tokens were
 -- read, the place is this one, and those tokens are left.
-use Rattle.std.proofs.Common.{◌≡◌, ℕ, Bool, true, false, cond, not, List, [], ◌∷◌, ◌++◌, Option, Some, None, refl, sym, ◌∙◌, ap, subst, append_assoc, append-nil}
+use Rattle.std.proofs.Common.{◌≡◌, ℕ, Bool, true, false, cond, not, ◌||◌, List, [], ◌∷◌, ◌++◌, Option, Some, None, refl, sym, ◌∙◌, ap, subst, append_assoc, append-nil}
 use Rattle.cnf_grammar.specs.declared.brackets.Bracket.{Bracket}
 use Rattle.cnf_grammar.specs.declared.brackets.Bracket.TheVariants.{Round, Square}
 use Rattle.cnf_grammar.specs.declared.mode.Mode.{Mode}
@@ -10,8 +10,27 @@ use Rattle.cnf_grammar.specs.Trees.{Balanced, no_tokens, then_token, then_group,
 use Rattle.cnf_grammar.specs.Spelling.{opening, closing, spell_balanced, spell_part, spell_parts}
 use Rattle.cnf_grammar.specs.Table.{or_else, when, any_token, within}
 use Rattle.cnf_grammar.proofs.Accepting.{place}
-use Rattle.cnf_grammar.proofs.AcceptedNotes.{is_plain, not_right_round, not_right_square, not_comma}
 
+-- what is no bracket is none of the four marks
+pub record IsPlain (s : Shape) : Type 0 where
+  pub not_left_round : is_mark left_round s ≡ false
+  pub not_right_round : is_mark right_round s ≡ false
+  pub not_left_square : is_mark left_square s ≡ false
+  pub not_right_square : is_mark right_square s ≡ false
+
+pub none_of : (a b c d : Bool) → (a || b || c || d) ≡ false → (a ≡ false) × (b ≡ false) × (c ≡ false) × (d ≡ false)
+none_of false false false false h = (refl, refl, refl, refl)
+none_of true b c d h = cc
+none_of false true c d h = cc
+none_of false false true d h = cc
+none_of false false false true h = cc
+
+pub is_plain : (s : Shape) → is_bracket s ≡ false → IsPlain s
+is_plain s h =
+    let parts = none_of (is_mark left_round s) (is_mark right_round s) (is_mark left_square s) (is_mark right_square s) h in
+    record { not_left_round = parts.0; not_right_round = parts.1; not_left_square = parts.2; not_right_square = parts.3 }
+
+-- a test passed over, and one taken
 pub skip_test : (Q : Option Place → Type 0) (test : Bool) (p : Place) (o : Option Place) → test ≡ false → Q o → Q (or_else test p o)
 skip_test Q true p o h a = cc
 skip_test Q false p o h a = a
@@ -20,6 +39,7 @@ pub take_test : (Q : Option Place → Type 0) (test : Bool) (p : Place) (o : Opt
 take_test Q true p o h a = a
 take_test Q false p o h a = cc
 
+-- a token that is no bracket leads nowhere else
 stays : (Q : Option Place → Type 0) (s : Shape) (p : Place) → is_bracket s ≡ false → Q (Some p) → Q (any_token p s)
 stays Q s p h a =
     let plain = is_plain s h in
@@ -27,17 +47,32 @@ stays Q s p h a =
     (skip_test Q (is_mark left_square s) (record p { brackets = Square ∷ p.brackets }) (when (not (is_bracket s)) p) plain.not_left_square
     (take_test Q (not (is_bracket s)) p None (ap not h) a))
 
+-- an opening bracket opens one
 opens : (Q : Option Place → Type 0) (bracket : Bracket) (mode : Mode) (level depth : ℕ) (brackets : List Bracket) → Q (Some (place mode level depth (bracket ∷ brackets))) → Q (any_token (place mode level depth brackets) (opening bracket))
 opens Q Round mode level depth brackets a = a
 opens Q Square mode level depth brackets a = a
 
-closes : (Q : Option Place → Type 0) (bracket : Bracket) (outer : List Bracket) (mode : Mode) (level depth : ℕ) → Q (Some (place mode level depth outer)) → Q (within bracket outer (place mode level depth (bracket ∷ outer)) (Punct (closing bracket)))
+-- within a bracket its own mark closes it
+pub closes : (Q : Option Place → Type 0) (bracket : Bracket) (outer : List Bracket) (mode : Mode) (level depth : ℕ) → Q (Some (place mode level depth outer)) → Q (within bracket outer (place mode level depth (bracket ∷ outer)) (Punct (closing bracket)))
 closes Q Round outer mode level depth a = a
 closes Q Square outer mode level depth a = a
 
+-- any other token is passed over there
 within-other : (Q : Option Place → Type 0) (bracket : Bracket) (outer : List Bracket) (s : Shape) (p : Place) → is_mark right_round s ≡ false → is_mark right_square s ≡ false → Q (any_token p s) → Q (within bracket outer p s)
 within-other Q Round outer s p round square a = skip_test Q (is_mark right_round s) (record p { brackets = outer }) (any_token p s) round a
 within-other Q Square outer s p round square a = skip_test Q (is_mark right_square s) (record p { brackets = outer }) (any_token p s) square a
+
+pub not_right_round : (bracket : Bracket) → is_mark right_round (opening bracket) ≡ false
+not_right_round Round = refl
+not_right_round Square = refl
+
+pub not_right_square : (bracket : Bracket) → is_mark right_square (opening bracket) ≡ false
+not_right_square Round = refl
+not_right_square Square = refl
+
+pub not_comma : (bracket : Bracket) → is_mark comma (opening bracket) ≡ false
+not_comma Round = refl
+not_comma Square = refl
 
 grouped : (acc : List Shape) (o c : Shape) (inside more : List Shape) → acc ++ (o ∷ (inside ++ (c ∷ more))) ≡ (((acc ++ o ∷ []) ++ inside) ++ c ∷ []) ++ more
 grouped acc o c inside more = sym (append_assoc ((acc ++ o ∷ []) ++ inside) (c ∷ []) more ∙ (append_assoc (acc ++ o ∷ []) inside (c ∷ more) ∙ append_assoc acc (o ∷ []) (inside ++ (c ∷ more))))
