@@ -8,9 +8,10 @@ use Rattle.cnf_grammar.specs.Trees.{Word, bare_word, quoted_word, Name, word_nam
 use Rattle.cnf_grammar.specs.Trees as trees
 use Rattle.cnf_grammar.specs.Spelling.{name_token, file_token, closing, spell_literal, spell_literals, spell_formula, spell_part, spell_parts, spell_source, spell_items, spell_info, spell_optional_info, spell_annotations, spell_more_names, spell_names, spell_selection, spell}
 use Rattle.cnf_grammar.proofs.Accepting.{AcceptsFrom, place, Accepts}
-use Rattle.cnf_grammar.proofs.Accepted.{taken, literal_read, formula_begins, accepts-term, accepts-arguments, accepts-terms, accepts-atom, accepts-literal, accepts-literals}
+use Rattle.cnf_grammar.proofs.Accepted.{literal_read, formula_begins, accepts-term, accepts-arguments, accepts-terms, accepts-atom, accepts-literal, accepts-literals}
+use Rattle.cnf_grammar.proofs.OneTerm.{regrouped}
 use Rattle.cnf_grammar.proofs.AcceptedNotes.{Accepted, source_within, info_within, accepts-source_first, accepts-source_parts, accepts-info_parts, accepts-items}
-use Rattle.cnf_grammar.proofs.Notes.{GoesWithin, closes, notes-balanced}
+use Rattle.cnf_grammar.proofs.Notes.{take_test, GoesWithin, closes, notes-balanced}
 use Rattle.cnf_grammar.proofs.Rests.{Next, next, One, one, so, Inside, Closed, ClauseEnds, AfterSource, SourceParts, SourceStarts, InfoStarts, InfoItems, InfoParts, AfterFormula, FormulaStarts, AfterLiteral, LiteralStarts, AtomStarts, AfterTerm, AfterWord, TermStarts, AfterRole, AfterName, NameStarts, IncludeEnds, ListEnds, AfterSelected, SelectedStarts, ListStarts, AfterFile, FileStarts, rest_at}
 
 -- accepted between statements
@@ -20,9 +21,6 @@ Goes tokens = (level depth : ℕ) (brackets : List Bracket) → Accepts (place S
 -- accepted in this mode
 abbrev pub GoesIn : Mode → List Shape → Type 0
 GoesIn mode tokens = (level depth : ℕ) (brackets : List Bracket) → Accepts (place mode level depth brackets) tokens
-
-pub regrouped : (a b c rest : List Shape) → (a ++ (b ++ c)) ++ rest ≡ a ++ (b ++ (c ++ rest))
-regrouped a b c rest = append_assoc a (b ++ c) rest ∙ ap (λ u. a ++ u) (append_assoc b c rest)
 
 pub at_clause_closed : (tokens : List Shape) → Closed Goes tokens → GoesIn ClauseClosed tokens
 at_clause_closed _ (next k) level depth brackets = k level depth brackets
@@ -153,7 +151,7 @@ at_file_read _ (so (selected names) {rest} k) level depth brackets =
 
 pub at_file_start : (tokens : List Shape) → FileStarts Goes tokens → GoesIn FileStart tokens
 at_file_start _ (one (bare_file text) {rest} k) level depth brackets = at_file_read rest k level depth brackets
-at_file_start _ (one (quoted_file text full) {rest} k) level depth brackets = taken (not (bytes_eq text (codes "''"))) (place FileRead level depth brackets) None rest (ap not full) (at_file_read rest k level depth brackets)
+at_file_start _ (one (quoted_file text full) {rest} k) level depth brackets = take_test (λ o. AcceptsFrom o rest) (not (bytes_eq text (codes "''"))) (place FileRead level depth brackets) None (ap not full) (at_file_read rest k level depth brackets)
 
 pub at_include_word : (tokens : List Shape) → Next left_round (FileStarts Goes) tokens → GoesIn IncludeWord tokens
 at_include_word _ (next {rest} k) level depth brackets = at_file_start rest k level depth brackets

@@ -8,7 +8,7 @@ use Rattle.cnf_grammar.specs.Trees.{Part}
 use Rattle.cnf_grammar.specs.Spelling.{spell_part, spell_parts, spell_items}
 use Rattle.cnf_grammar.specs.Table.{or_else, any_token}
 use Rattle.cnf_grammar.proofs.Accepting.{place, AcceptsFrom, Accepts}
-use Rattle.cnf_grammar.proofs.Notes.{skip_test, GoesWithin, GoesOutside, notes-part, notes-parts}
+use Rattle.cnf_grammar.proofs.Notes.{skip_test, not_none, GoesWithin, GoesOutside, notes-part, notes-parts}
 
 -- accepted, and nothing is kept of the tokens
 abbrev pub Accepted : List Shape → Option Place → List Shape → Type 0
@@ -21,12 +21,8 @@ pub info_within : GoesWithin Accepted Info
 info_within acc level depth bracket outer s tokens h = h
 
 -- the three places where a part may begin
-not_none : (test : Bool) (o : Option Place) (tokens : List Shape) → test ≡ false → AcceptsFrom o tokens → AcceptsFrom (cond test None o) tokens
-not_none true o tokens h a = cc
-not_none false o tokens h a = a
-
 source_first : (brackets : List Bracket) → GoesOutside Accepted Source SourceStart brackets
-source_first brackets acc level depth s tokens apart round square a = not_none (is_mark comma s) (any_token (place Source level depth []) s) tokens apart a
+source_first brackets acc level depth s tokens apart round square a = not_none (λ o. AcceptsFrom o tokens) (is_mark comma s) (any_token (place Source level depth []) s) apart a
 
 source_outside : GoesOutside Accepted Source Source []
 source_outside acc level depth s tokens apart round square a =

@@ -9,7 +9,7 @@ use Rattle.cnf_grammar.specs.Meaning.{unquoted, word_kind, integer_kind, distinc
 use Rattle.cnf_grammar.specs.Draft.{Draft, push_symbol, push_variable, first_argument, next_argument, close_arguments, push_constant, finish}
 use Rattle.cnf_grammar.specs.Gathering.{Gathered, gather_from}
 use Rattle.cnf_grammar.proofs.Accepting.{place}
-use Rattle.cnf_grammar.proofs.OneTerm.{Follows, follows_comma, follows_round, follows_bar, Ends, ends_comma, ends_round}
+use Rattle.cnf_grammar.proofs.OneTerm.{Follows, follows_comma, follows_round, follows_bar, Ends, ends_comma, ends_round, terms_follow, literals_follow}
 
 abbrev pub with_formula : Gathered → Draft → Gathered
 with_formula g d = record g { formula = d }
@@ -52,10 +52,6 @@ word_as_term : (g : Gathered) → (level depth : ℕ) (brackets : List Bracket) 
 word_as_term g level depth brackets d _ follows_comma = refl
 word_as_term g level depth brackets d _ follows_round = refl
 word_as_term g level depth brackets d _ follows_bar = refl
-
-terms_follow : (more : Terms) (rest : List Shape) → Follows (spell_terms more ++ Punct right_round ∷ rest)
-terms_follow no_terms rest = follows_round
-terms_follow (then_term term more) rest = follows_comma
 
 mutual
   pub collects-term : (g : Gathered) → (term : Term) (level depth : ℕ) (brackets : List Bracket) (d : Draft) (rest : List Shape) → Follows rest → gather_from (Some (place TermStart level depth brackets)) (with_formula g d) (spell_term term ++ rest) ≡ gather_from (Some (place TermRead level depth brackets)) (with_formula g (add_term term d)) rest
@@ -100,11 +96,6 @@ formula_as_literal g (positive truth) level depth brackets d rest = refl
 formula_as_literal g (positive falsity) level depth brackets d rest = refl
 formula_as_literal g (positive (predicate (bare_word text) args)) level depth brackets d rest = refl
 formula_as_literal g (positive (predicate (quoted_word text) args)) level depth brackets d rest = refl
-
-literals_follow : (more : List Literal) (rest : List Shape) → Ends rest → Follows (spell_literals more ++ rest)
-literals_follow [] _ ends_comma = follows_comma
-literals_follow [] _ ends_round = follows_round
-literals_follow (literal ∷ more) rest f = follows_bar
 
 -- behind the last literal as behind the formula
 literal_as_formula : (g : Gathered) → (level : ℕ) (brackets : List Bracket) (d : Draft) (rest : List Shape) → Ends rest → gather_from (Some (place TermRead level 0 brackets)) (with_formula g d) rest ≡ gather_from (Some (place FormulaClosed level 0 brackets)) (with_formula g (finish d)) rest

@@ -1,6 +1,7 @@
 mod Accepting
 mod Rests
 mod Accepted
+mod Notes
 mod AcceptedNotes
 mod AcceptedFiles
 mod Spelled
@@ -14,7 +15,6 @@ mod OneFile
 mod Variables
 mod Collected
 mod Drafted
-mod Notes
 mod ItemLaws
 mod ItemNumbers
 mod Whole

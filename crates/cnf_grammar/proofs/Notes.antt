@@ -39,6 +39,10 @@ pub take_test : (Q : Option Place → Type 0) (test : Bool) (p : Place) (o : Opt
 take_test Q true p o h a = a
 take_test Q false p o h a = cc
 
+pub not_none : (Q : Option Place → Type 0) (test : Bool) (o : Option Place) → test ≡ false → Q o → Q (cond test None o)
+not_none Q true o h a = cc
+not_none Q false o h a = a
+
 -- a token that is no bracket leads nowhere else
 stays : (Q : Option Place → Type 0) (s : Shape) (p : Place) → is_bracket s ≡ false → Q (Some p) → Q (any_token p s)
 stays Q s p h a =

@@ -35,7 +35,7 @@ not_open _ more follows_comma e = apart comma (Punct comma) (Punct left_round) (
 not_open _ more follows_round e = apart right_round (Punct right_round) (Punct left_round) (heads e).0 refl refl
 not_open _ more follows_bar e = apart bar (Punct bar) (Punct left_round) (heads e).0 refl refl
 
-terms_follow : (more : Terms) (rest : List Shape) → Follows (spell_terms more ++ Punct right_round ∷ rest)
+pub terms_follow : (more : Terms) (rest : List Shape) → Follows (spell_terms more ++ Punct right_round ∷ rest)
 terms_follow no_terms rest = follows_round
 terms_follow (then_term term more) rest = follows_comma
 
@@ -107,7 +107,7 @@ one_literal (negative a) (negative b) r s f g e = let h = one_atom a b r s f g (
 one_literal (positive a) (negative b) r s f g e = absurd (atom_apart a tilde r (spell_atom b ++ s) e)
 one_literal (negative a) (positive b) r s f g e = absurd (atom_apart b tilde s (spell_atom a ++ r) (sym e))
 
-literals_follow : (more : List Literal) (rest : List Shape) → Ends rest → Follows (spell_literals more ++ rest)
+pub literals_follow : (more : List Literal) (rest : List Shape) → Ends rest → Follows (spell_literals more ++ rest)
 literals_follow [] _ ends_comma = follows_comma
 literals_follow [] _ ends_round = follows_round
 literals_follow (literal ∷ more) rest f = follows_bar

@@ -17,7 +17,7 @@ use Rattle.cnf_grammar.proofs.Accepting.{place}
 use Rattle.cnf_grammar.proofs.OneTerm.{Ends, ends_comma, ends_round, regrouped}
 use Rattle.cnf_grammar.proofs.Collected.{with_formula, add_formula, collects-formula}
 use Rattle.cnf_grammar.proofs.Drafted.{drafted}
-use Rattle.cnf_grammar.proofs.Notes.{skip_test, take_test, GoesWithin, GoesOutside, notes-part, notes-parts}
+use Rattle.cnf_grammar.proofs.Notes.{skip_test, take_test, not_none, GoesWithin, GoesOutside, notes-part, notes-parts}
 
 -- all is gathered in the end
 abbrev Leads : Gathered → Gathered → Option Place → List Shape → Type 0
@@ -38,10 +38,6 @@ source_outside target g acc level depth s tokens apart round square h =
     let Q : Option Place → Type 0 = λ o. Leads target g o tokens in
     skip_test Q (is_mark comma s) (place InfoStart level depth []) (or_else (is_mark right_round s) (place ClauseClosed level depth []) (any_token (place Source level depth []) s)) apart
     (skip_test Q (is_mark right_round s) (place ClauseClosed level depth []) (any_token (place Source level depth []) s) round h)
-
-not_none : (Q : Option Place → Type 0) (test : Bool) (o : Option Place) → test ≡ false → Q o → Q (cond test None o)
-not_none Q true o h a = cc
-not_none Q false o h a = a
 
 source_first : (target g : Gathered) (brackets : List Bracket) → GoesOutside (λ acc o tokens. Leads target g o tokens) Source SourceStart brackets
 source_first target g brackets acc level depth s tokens apart round square h =

@@ -64,19 +64,21 @@ first_argument d = record d {
   open_words = pred (length d.atom) ∷ d.open_words;
 }
 
--- a further argument of the innermost open word begins
+-- a further argument of the innermost of these words begins
 abbrev pub next_argument_of : List ℕ → Draft → Draft
 next_argument_of [] d = d
 next_argument_of (place ∷ outer) d = record d { atom = add_argument place d.atom }
 
+-- a further argument begins
 abbrev pub next_argument : Draft → Draft
 next_argument d = next_argument_of d.open_words d
 
--- the innermost open word closes its arguments
+-- the innermost of these words closes its arguments
 abbrev pub close_words : List ℕ → Draft → Draft
 close_words [] d = d
 close_words (place ∷ outer) d = record d { open_words = outer }
 
+-- the innermost open word closes its arguments
 abbrev pub close_arguments : Draft → Draft
 close_arguments d = close_words d.open_words d
 
@@ -91,11 +93,12 @@ constant false true = always
 abbrev pub push_constant : Bool → Draft → Draft
 push_constant truth d = record d { literals = d.literals ++ constant truth d.is_negative ∷ []; is_negative = false }
 
--- the atom under way is whole
+-- the literal of this atom is whole, if one is under way
 abbrev pub finish_atom : List Item → Draft → Draft
 finish_atom [] d = d
 finish_atom (item ∷ items) d = record d { literals = d.literals ++ signed d.is_negative (item ∷ items) ∷ []; is_negative = false; atom = [] }
 
+-- the literal under way is whole, if there is one
 abbrev pub finish : Draft → Draft
 finish d = finish_atom d.atom d
 
