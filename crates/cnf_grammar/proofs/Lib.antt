@@ -18,3 +18,4 @@ mod Drafted
 mod ItemLaws
 mod ItemNumbers
 mod Whole
+mod Counting

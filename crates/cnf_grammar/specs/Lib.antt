@@ -10,3 +10,4 @@ pub mod Meaning
 pub mod Draft
 pub mod Items
 pub mod Gathering
+pub mod Counters

@@ -1,6 +1,6 @@
 //! The laws that join the table to the grammar. The functions do nothing: each is called for what it ensures.
 
-ghost use Rattle.std.specs.Prelude.{◌≡◌, ◌<◌, ◌^◌, Bool, true, false, length, map, List, [], ◌∷◌, ◌++◌, Some, None, IsSome, ◌↔◌};
+ghost use Rattle.std.specs.Prelude.{◌≡◌, ◌+◌, ◌<◌, ◌^◌, Bool, true, false, length, map, List, [], ◌∷◌, ◌++◌, Some, None, IsSome, ◌↔◌};
 ghost use Rattle.cnf_grammar.specs.declared.place.Place.{Place};
 ghost use Rattle.cnf_grammar.specs.Shapes.{Shape};
 ghost use Rattle.cnf_grammar.specs.Trees.{Statement};
@@ -10,6 +10,7 @@ ghost use Rattle.cnf_grammar.specs.Conclude.{gives_conclusions, IsConcludeItem, 
 ghost use Rattle.cnf_grammar.specs.Items.{item_start, item_closed, item_run};
 ghost use Rattle.cnf_grammar.specs.Meaning.{meaning};
 ghost use Rattle.cnf_grammar.specs.Gathering.{gathered, gather_from};
+ghost use Rattle.cnf_grammar.specs.Counters.{in_formula, open_brackets, opened_by, closed_by, IsTidy};
 ghost use Rattle.cnf_grammar.specs.Laws.{LeadsToEnd, StopsAt, IsFirstFault};
 
 /// The tokens that a tree spells lead from the start to a place where a file may end.
@@ -44,6 +45,14 @@ pub fn place_tells_what_may_come()
     ensures next { (tokens : List Shape) (p : Place) (s : Shape) → run start tokens ≡ Some p → run start (tokens ++ s ∷ []) ≡ step p s }
     ensures stop { (tokens : List Shape) (p : Place) (s : Shape) → run start tokens ≡ Some p → (step p s ≡ None) ↔ (IsFront (tokens ++ s ∷ []) → ⊥) }
     ensures end { (tokens : List Shape) (p : Place) → run start tokens ≡ Some p → (is_end p ≡ true) ↔ IsFile tokens }
+{}
+
+/// Where tokens lead to a place, its two counters together are the round brackets that are open in
+/// the formula: a bracket of the formula opens or closes one, no other token does, and outside of
+/// formulas both are 0, as is `depth` outside of atoms.
+pub fn counters_count_open_brackets()
+    ensures outside { (tokens : List Shape) (p : Place) → run start tokens ≡ Some p → IsTidy p }
+    ensures inside { (tokens : List Shape) (p q : Place) (s : Shape) → run start tokens ≡ Some p → step p s ≡ Some q → in_formula p.mode ≡ true → in_formula q.mode ≡ true → open_brackets q + closed_by s ≡ open_brackets p + opened_by s }
 {}
 
 /// No two trees spell the same tokens, so tokens have at most one meaning.
