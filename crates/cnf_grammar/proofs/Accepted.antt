@@ -1,12 +1,11 @@
 -- What the trees at a place spell, the table accepts from there.
-use Rattle.std.proofs.Common.{◌≡◌, ℕ, zero, suc, Bool, true, false, List, [], ◌∷◌, ◌++◌, Option, sym, ◌∙◌, ap, subst, append_assoc}
+use Rattle.std.proofs.Common.{ℕ, zero, suc, List, [], ◌∷◌, ◌++◌, sym, ◌∙◌, ap, subst, append_assoc}
 use Rattle.cnf_grammar.specs.declared.brackets.Bracket.{Bracket}
 use Rattle.cnf_grammar.specs.declared.mode.Mode.TheVariants.{FormulaStart, LiteralStart, AtomStart, WordRead, TermStart, TermRead, FormulaClosed}
-use Rattle.cnf_grammar.specs.declared.place.Place.{Place}
 use Rattle.cnf_grammar.specs.Shapes.{Shape, Punct, left_round, right_round, bar, tilde, is_mark}
 use Rattle.cnf_grammar.specs.Trees.{bare_word, quoted_word, Term, variable, number, distinct, compound, Arguments, no_arguments, arguments, Terms, no_terms, then_term, Atom, truth, falsity, predicate, Literal, positive, negative}
 use Rattle.cnf_grammar.specs.Spelling.{spell_term, spell_arguments, spell_terms, spell_atom, spell_literal, spell_literals}
-use Rattle.cnf_grammar.specs.Table.{or_else, atom_start, literal_start, after_formula, after_term}
+use Rattle.cnf_grammar.specs.Table.{atom_start, literal_start, after_formula, after_term}
 use Rattle.cnf_grammar.proofs.Accepting.{place, AcceptsFrom, Accepts, passed, mark_is}
 
 -- what may stand behind a term may stand behind a word

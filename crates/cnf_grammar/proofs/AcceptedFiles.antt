@@ -1,5 +1,5 @@
 -- What the trees at a place spell, the table accepts from there: formulas, statements and files.
-use Rattle.std.proofs.Common.{◌≡◌, ℕ, zero, suc, not, bytes_eq, List, [], ◌∷◌, ◌++◌, Some, None, codes, refl, sym, ◌∙◌, ap, subst, append_assoc}
+use Rattle.std.proofs.Common.{ℕ, zero, suc, not, bytes_eq, List, [], ◌∷◌, ◌++◌, Some, None, codes, refl, sym, ap, subst, append_assoc}
 use Rattle.cnf_grammar.specs.declared.brackets.Bracket.{Bracket}
 use Rattle.cnf_grammar.specs.declared.mode.Mode.{Mode}
 use Rattle.cnf_grammar.specs.declared.mode.Mode.TheVariants.{Statement, ClauseWord, NameStart, NameRead, RoleStart, RoleRead, FormulaStart, LiteralStart, AtomStart, WordRead, TermStart, TermRead, FormulaClosed, SourceStart, Source, InfoStart, Info, InfoClosed, ClauseClosed, IncludeWord, FileStart, FileRead, SelectionStart, SelectionOpen, SelectedStart, SelectedRead, SelectionClosed, IncludeClosed}

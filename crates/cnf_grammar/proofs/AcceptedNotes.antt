@@ -1,5 +1,5 @@
 -- Annotations are accepted as they are spelled.
-use Rattle.std.proofs.Common.{◌≡◌, ℕ, Bool, true, false, cond, List, [], ◌∷◌, ◌++◌, Option, Some, None, sym, subst, append_assoc}
+use Rattle.std.proofs.Common.{ℕ, List, [], ◌∷◌, ◌++◌, Option, sym, subst, append_assoc}
 use Rattle.cnf_grammar.specs.declared.brackets.Bracket.{Bracket}
 use Rattle.cnf_grammar.specs.declared.mode.Mode.TheVariants.{Source, SourceStart, InfoStart, Info, InfoClosed, ClauseClosed}
 use Rattle.cnf_grammar.specs.declared.place.Place.{Place}

@@ -1,16 +1,15 @@
 -- The counters of a place count the open brackets of the formula, and are 0 outside formulas.
-use Rattle.std.proofs.Common.{◌≡◌, ℕ, zero, suc, ◌+◌, Bool, true, false, cond, not, ◌||◌, List, [], ◌∷◌, ◌⊎◌, inl, inr, Option, Some, None, codes, refl, sym, ◌∙◌, ap, subst, arith}
+use Rattle.std.proofs.Common.{◌≡◌, ℕ, zero, suc, ◌+◌, Bool, true, false, cond, not, ◌||◌, List, [], ◌∷◌, Option, Some, None, codes, refl, sym, subst, arith}
 use Rattle.cnf_grammar.specs.declared.brackets.Bracket.{Bracket}
 use Rattle.cnf_grammar.specs.declared.brackets.Bracket.TheVariants.{Round, Square}
 use Rattle.cnf_grammar.specs.declared.mode.Mode.{Mode}
 use Rattle.cnf_grammar.specs.declared.mode.Mode.TheVariants.{Statement, ClauseWord, NameStart, NameRead, RoleStart, RoleRead, FormulaStart, LiteralStart, AtomStart, WordRead, TermStart, TermRead, FormulaClosed, SourceStart, Source, InfoStart, Info, InfoClosed, ClauseClosed, IncludeWord, FileStart, FileRead, SelectionStart, SelectionOpen, SelectedStart, SelectedRead, SelectionClosed, IncludeClosed}
 use Rattle.cnf_grammar.specs.declared.place.Place.{Place}
-use Rattle.cnf_grammar.specs.Shapes.{Shape, Lower, Upper, Quoted, Distinct, Dollar, Number, NotEqual, Punct, left_round, right_round, left_square, right_square, comma, dot, bar, tilde, is_mark, is_bracket, is_keyword, is_defined, is_lower, is_word, is_name, is_simple_term, is_file_name}
+use Rattle.cnf_grammar.specs.Shapes.{Shape, Punct, left_round, right_round, left_square, right_square, comma, dot, bar, tilde, is_mark, is_bracket, is_keyword, is_defined, is_lower, is_word, is_name, is_simple_term, is_file_name}
 use Rattle.cnf_grammar.specs.Spelling.{closing}
-use Rattle.cnf_grammar.specs.Table.{or_else, when, step, step_at, between, atom_start, literal_start, formula_start, after_formula, after_literal, after_term, after_word, term_start, any_token, within, source_start, in_source, in_info, run_from, run, start}
+use Rattle.cnf_grammar.specs.Table.{or_else, when, step, step_at, atom_start, literal_start, after_formula, after_term, any_token, within, in_source, in_info, run_from, run, start}
 use Rattle.cnf_grammar.specs.Counters.{in_formula, open_brackets, opened_by, closed_by, IsTidy}
-use Rattle.cnf_grammar.proofs.Accepting.{place, mark_is, defined_is}
-use Rattle.cnf_grammar.proofs.SpelledFiles.{one_of}
+use Rattle.cnf_grammar.proofs.Accepting.{place, mark_is}
 
 -- of the place there, if there is one
 abbrev TidyFrom : Option Place → Type 0

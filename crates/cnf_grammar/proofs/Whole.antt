@@ -1,21 +1,20 @@
 -- The tokens of a file, gathered along the table, leave what its statements say.
-use Rattle.std.proofs.Common.{◌≡◌, ℕ, zero, suc, Bool, true, false, cond, not, ◌||◌, bytes_eq, List, [], ◌∷◌, ◌++◌, map, filter, filter_map, Option, Some, None, codes, refl, sym, ◌∙◌, ap, subst, append_assoc, append-nil}
+use Rattle.std.proofs.Common.{◌≡◌, ℕ, Bool, true, false, cond, not, ◌||◌, bytes_eq, List, [], ◌∷◌, ◌++◌, map, Option, Some, None, codes, sym, ◌∙◌, ap, subst, append_assoc, append-nil}
 use Rattle.cnf_grammar.specs.declared.brackets.Bracket.{Bracket}
-use Rattle.cnf_grammar.specs.declared.mode.Mode.{Mode}
-use Rattle.cnf_grammar.specs.declared.mode.Mode.TheVariants.{Statement, FormulaStart, FormulaClosed, SourceStart, Source, InfoStart, Info, InfoClosed, ClauseClosed, FileStart, FileRead, SelectionOpen, SelectedStart, SelectedRead, SelectionClosed, IncludeClosed}
+use Rattle.cnf_grammar.specs.declared.mode.Mode.TheVariants.{Statement, FormulaStart, FormulaClosed, SourceStart, Source, InfoStart, Info, InfoClosed, ClauseClosed, FileStart, FileRead, SelectionOpen, SelectedStart, SelectedRead}
 use Rattle.cnf_grammar.specs.declared.place.Place.{Place}
-use Rattle.cnf_grammar.specs.Shapes.{Shape, Lower, Punct, left_round, right_round, left_square, right_square, comma, dot, is_mark}
+use Rattle.cnf_grammar.specs.Shapes.{Shape, Punct, right_round, right_square, comma, dot, is_mark}
 use Rattle.cnf_grammar.specs.Trees.{bare_word, quoted_word, Name, word_name, number_name, FileName, bare_file, quoted_file, Formula, Part, Info as InfoTree, Annotations, no_annotations, annotations, Selection, every_clause, selected, clause, include}
 use Rattle.cnf_grammar.specs.Trees as trees
-use Rattle.cnf_grammar.specs.Spelling.{name_token, file_token, spell_formula, spell_part, spell_parts, spell_source, spell_items, spell_info, spell_optional_info, spell_annotations, spell_more_names, spell_names, spell_selection, spell_statement, spell}
-use Rattle.cnf_grammar.specs.Table.{or_else, when, any_token, within}
-use Rattle.cnf_grammar.specs.Conclude.{items_of, items_of_info, gives_conclusions, number_of_token}
-use Rattle.cnf_grammar.specs.Meaning.{Named, named, ReadStatement, read_clause, meaning, file_text, selected_names}
+use Rattle.cnf_grammar.specs.Spelling.{name_token, file_token, spell_formula, spell_part, spell_parts, spell_source, spell_items, spell_info, spell_annotations, spell_more_names, spell_names, spell_selection, spell_statement, spell}
+use Rattle.cnf_grammar.specs.Table.{or_else, any_token}
+use Rattle.cnf_grammar.specs.Conclude.{items_of, items_of_info}
+use Rattle.cnf_grammar.specs.Meaning.{Named, named, ReadStatement, meaning, file_text, selected_names}
 use Rattle.cnf_grammar.specs.Draft.{empty_draft, draft_of}
 use Rattle.cnf_grammar.specs.Gathering.{Gathered, gathered, finish_clause, finish_include, gather_from}
 use Rattle.cnf_grammar.proofs.Accepting.{place}
 use Rattle.cnf_grammar.proofs.OneTerm.{Ends, ends_comma, ends_round, regrouped}
-use Rattle.cnf_grammar.proofs.Collected.{with_formula, add_formula, collects-formula}
+use Rattle.cnf_grammar.proofs.Collected.{with_formula, collects-formula}
 use Rattle.cnf_grammar.proofs.Drafted.{drafted}
 use Rattle.cnf_grammar.proofs.Notes.{skip_test, take_test, not_none, GoesWithin, GoesOutside, notes-part, notes-parts}
 

@@ -1,11 +1,9 @@
 -- The literals of a clause under way: what each token of its formula adds to them.
-use Rattle.std.specs.Prelude.{ℕ, zero, suc, pred, Bool, true, false, cond, ◌==◌, List, [], ◌∷◌, ◌++◌, Option, Some, None, map, length, codes, bytes_eq}
+use Rattle.std.specs.Prelude.{ℕ, zero, suc, pred, Bool, true, false, cond, ◌==◌, List, [], ◌∷◌, ◌++◌, map, length, codes, bytes_eq}
 use Rattle.cnf_grammar.specs.declared.mode.Mode.{Mode}
 use Rattle.cnf_grammar.specs.declared.mode.Mode.TheVariants.{FormulaStart, LiteralStart, AtomStart, WordRead, TermStart, TermRead}
-use Rattle.cnf_grammar.specs.declared.place.Place.{Place}
 use Rattle.cnf_grammar.specs.Shapes.{Shape, Lower, Upper, Quoted, Distinct, Dollar, Number, Punct, left_round, comma, tilde, is_mark}
 use Rattle.cnf_grammar.specs.Trees.{Formula}
-use Rattle.cnf_grammar.specs.Table.{step}
 use Rattle.cnf_grammar.specs.Conclude.{literals_of}
 use Rattle.cnf_grammar.specs.Meaning.{unquoted, Kind, word_kind, integer_kind, distinct_kind, Item, symbol_item, variable_item, variables_of, index_of, ClauseLiteral, always, never, signed, clause_literal}
 

@@ -1,13 +1,13 @@
 -- What the statements of a file say, gathered token by token along the table.
-use Rattle.std.specs.Prelude.{◌≡◌, ℕ, Bool, true, false, cond, ◌||◌, List, [], ◌∷◌, ◌++◌, Option, Some, None, map, filter, filter_map}
+use Rattle.std.specs.Prelude.{ℕ, cond, ◌||◌, List, [], ◌∷◌, ◌++◌, Option, Some, None, map, filter, filter_map}
 use Rattle.cnf_grammar.specs.declared.brackets.Bracket.{Bracket}
 use Rattle.cnf_grammar.specs.declared.mode.Mode.{Mode}
 use Rattle.cnf_grammar.specs.declared.mode.Mode.TheVariants.{NameStart, RoleStart, FormulaStart, LiteralStart, AtomStart, WordRead, TermStart, TermRead, Info, ClauseClosed, FileStart, FileRead, SelectionOpen, SelectedStart, IncludeClosed}
 use Rattle.cnf_grammar.specs.declared.place.Place.{Place}
-use Rattle.cnf_grammar.specs.Shapes.{Shape, Lower, Quoted, Number, Punct, comma, right_square, is_mark, is_name}
+use Rattle.cnf_grammar.specs.Shapes.{Shape, Lower, Quoted, Number, comma, right_square, is_mark, is_name}
 use Rattle.cnf_grammar.specs.Table.{step}
 use Rattle.cnf_grammar.specs.Conclude.{gives_conclusions, number_of_token}
-use Rattle.cnf_grammar.specs.Meaning.{unquoted, Kind, word_kind, integer_kind, Named, ReadStatement, read_clause, read_include}
+use Rattle.cnf_grammar.specs.Meaning.{unquoted, word_kind, integer_kind, Named, ReadStatement, read_clause, read_include}
 use Rattle.cnf_grammar.specs.Draft.{Draft, empty_draft, collect_at}
 
 -- the statements that were read to their dots, and what was read of the next
