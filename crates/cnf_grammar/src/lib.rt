@@ -1,0 +1,25 @@
+//! The grammar of problem files in clause normal form: what a file is, and the table that follows it token by token.
+#![tactic(auto)]
+
+mod annotations;
+mod brackets;
+mod formulas;
+mod item;
+mod laws;
+mod lexeme;
+mod mode;
+mod place;
+mod statements;
+#[cfg(test)]
+mod tests;
+
+pub use brackets::{Bracket, Brackets};
+pub use item::ItemPlace;
+pub use laws::{
+    counters_count_open_brackets, each_file_has_one_tree, each_file_is_accepted,
+    each_file_leaves_its_meaning, each_place_can_be_completed, fronts_lead_on, items_are_followed,
+    only_files_are_accepted, place_tells_what_may_come, stops_at_first_fault,
+};
+pub use lexeme::Lexeme;
+pub use mode::Mode;
+pub use place::Place;
