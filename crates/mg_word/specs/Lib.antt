@@ -5,5 +5,6 @@ pub mod OrderLaws
 pub mod Orders
 pub mod Seen
 pub mod Sets
+pub mod Spelling
 pub mod Table
 pub mod Words
