@@ -1,7 +1,7 @@
 -- The one spelling of symbols, words and literals, as bytes.
-use Rattle.std.specs.Prelude.{ℕ, zero, suc, ◌+◌, Bool, false, ◌&&◌, ◌||◌, nat_eq, nat_le, List, [], ◌∷◌, ◌++◌, map, slice_get, codes, if◌then◌else◌}
+use Rattle.std.specs.Prelude.{ℕ, zero, suc, ◌+◌, Bool, true, false, ◌&&◌, ◌||◌, nat_eq, nat_lt, nat_le, List, [], ◌∷◌, ◌++◌, map, length, Option, Some, slice_get, if◌then◌else◌}
 use Rattle.std.specs.List.{list_all, flat_map}
-use Rattle.std.specs.Option.{option_to_list}
+use Rattle.std.specs.Option.{option_map, option_to_list}
 use Rattle.std.specs.Fmt.{decimal}
 use Rattle.mg_word.specs.Table.{Symbol}
 use Rattle.mg_word.specs.Facts.{is_digit}
@@ -109,13 +109,22 @@ spelled_lit table lit = spelled_sign lit.negative ++ spelled table lit.word
 abbrev pub variable_piece : ℕ → Piece
 variable_piece variable = record { text = 88 ∷ decimal (variable + 1); arity = 0 }
 
-abbrev pub item_pieces : List Symbol → Item → List Piece
-item_pieces table (Sym symbol) = map symbol_piece (option_to_list (slice_get table symbol))
-item_pieces table (Var variable) = variable_piece variable ∷ []
+-- the piece of an item, if the table has its symbol
+abbrev pub item_piece : List Symbol → Item → Option Piece
+item_piece table (Sym symbol) = option_map symbol_piece (slice_get table symbol)
+item_piece table (Var variable) = Some (variable_piece variable)
+
+abbrev pub item_pieces : List Symbol → List Item → List Piece
+item_pieces table items = flat_map (λ item. option_to_list (item_piece table item)) items
+
+-- the item is a variable or a symbol of the table
+abbrev pub is_known_item : List Symbol → Item → Bool
+is_known_item table (Sym symbol) = nat_lt symbol (length table)
+is_known_item table (Var variable) = true
 
 -- a pattern over a table
 abbrev pub spelled_pattern : List Symbol → List Item → List ℕ
-spelled_pattern table items = spelled_within [] (flat_map (item_pieces table) items)
+spelled_pattern table items = spelled_within [] (item_pieces table items)
 
 -- a literal with variables over a table
 abbrev pub spelled_pattern_lit : List Symbol → PatLit → List ℕ

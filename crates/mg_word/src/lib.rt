@@ -29,7 +29,7 @@ pub use lit_set::LitSet;
 pub use memory::NoMemory;
 pub use pattern::Pattern;
 pub use problem::Problem;
-pub use spelling::{lit_text, push_lit, push_word, word_text};
+pub use spelling::{lit_text, push_lit, push_pattern_lit, push_word, word_text};
 pub use subst::Subst;
 pub use symbol::{Kind, Symbols};
 pub use text::Text;

@@ -1,11 +1,11 @@
 //! The one spelling of words and literals, appended to a buffer without recursion.
 
-ghost use Rattle.std.specs.Prelude.{◌≡◌, ◌++◌, [], ◌∷◌, ◌<◌, reverse, length, IfOk, OnOk, IfSome, IsTrue, slice_get};
+ghost use Rattle.std.specs.Prelude.{◌≡◌, ℕ, ◌++◌, [], ◌∷◌, ◌<◌, reverse, length, IfOk, OnOk, IfSome, IsTrue, slice_get};
 ghost use Rattle.std.specs.List.{flat_map, list_all};
-ghost use Rattle.mg_word.specs.Words.{fits};
+ghost use Rattle.mg_word.specs.Words.{fits, pattern_fits};
 ghost use Rattle.mg_word.specs.Spelling as spelling;
 
-use crate::{Kind, Lit, NoMemory, Symbols, Text, Word};
+use crate::{Item, Kind, Lit, NoMemory, PatLit, Pattern, Symbols, Text, Word};
 use std::alloc::Global;
 
 // Whether the byte may stand in a bare word.
@@ -190,4 +190,50 @@ fn push_variable(into: &mut Vec<u8>, variable: u32) -> Result<(), NoMemory>
     into.push(b'X')?;
     into.extend_from_slice(number.as_bytes())?;
     Ok(())
+}
+
+// Appends an item and what stands behind it.
+fn push_item(
+    into: &mut Vec<u8>,
+    brackets: &mut Vec<u32>,
+    symbols: &Symbols,
+    item: Item,
+) -> Result<(), NoMemory>
+    requires { IsTrue (spelling.is_known_item symbols.now item) }
+    ensures text { OnOk result (IfSome (spelling.item_piece symbols.now item) (λ piece. into.new.items ≡ into.old.items ++ (piece.text ++ spelling.behind piece.arity (reverse brackets.old.items)))) }
+    ensures kept { OnOk result (IfSome (spelling.item_piece symbols.now item) (λ piece. reverse brackets.new.items ≡ spelling.open_behind piece.arity (reverse brackets.old.items))) }
+{
+    match item {
+        Item::Sym(id) => push_symbol(into, brackets, symbols, id),
+        Item::Var(variable) => {
+            push_variable(into, variable)?;
+            push_behind(into, brackets, 0)
+        }
+    }
+}
+
+// Appends a pattern as it is spelled.
+fn push_pattern(into: &mut Vec<u8>, symbols: &Symbols, pattern: &Pattern) -> Result<(), NoMemory>
+    requires { (variables : ℕ) × IsTrue (pattern_fits symbols.now variables pattern.now) }
+    ensures { OnOk result (into.new.items ≡ into.old.items ++ spelling.spelled_pattern symbols.now pattern.now) }
+{
+    let mut brackets = Vec::new(*into.allocator());
+    for item in pattern.as_slice() {
+        push_item(into, &mut brackets, symbols, *item)?;
+    }
+    Ok(())
+}
+
+/// Appends a literal with its variables printed as `X1`, `X2`, .. as it is spelled. After an error the
+/// buffer may hold a part of it.
+pub fn push_pattern_lit(
+    into: &mut Vec<u8>,
+    symbols: &Symbols,
+    lit: &PatLit,
+) -> Result<(), NoMemory>
+    requires { (variables : ℕ) × IsTrue (pattern_fits symbols.now variables lit.now.pattern) }
+    ensures { OnOk result (into.new.items ≡ into.old.items ++ spelling.spelled_pattern_lit symbols.now lit.now) }
+{
+    push_sign(into, lit.negative)?;
+    push_pattern(into, symbols, &lit.pattern)
 }

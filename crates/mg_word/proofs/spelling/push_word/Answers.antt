@@ -1,4 +1,4 @@
-use Rattle.std.proofs.Common.{◌∙◌, reverse, get_or}
+use Rattle.std.proofs.Common.{◌∙◌, reverse}
 use Rattle.mg_word.proofs.Spellings.{terms_within, word_step}
 use Rattle.mg_word.proofs.spelling.push_word.Goals as goal
 
