@@ -1,8 +1,11 @@
 -- Whether a rising list of literals is a part of another, by going over both at once.
-use Rattle.std.proofs.Common.{◌≡◌, ℕ, ◌+◌, ◌<◌, zero, suc, Bool, true, false, true≢false, ◌||◌, ◌&&◌, List, [], ◌∷◌, length, get_or, drop, drop-cons, add-one, refl, sym, ap, ◌∙◌, arith}
+use Rattle.std.proofs.Common.{◌≡◌, ℕ, ◌+◌, ◌<◌, zero, suc, Bool, true, false, ◌||◌, ◌&&◌, List, [], ◌∷◌, length, get_or, drop, drop-cons, add-one, ◌≤◌, nat_eq, inl, inr, refl, sym, ap, ◌∙◌, arith}
 use Rattle.std.specs.declared.cmp.Ordering.TheVariants.{Less, Equal, Greater}
 use Rattle.std.specs.Ordering.{is_lt, is_eq, ordering_reverse}
-use Rattle.std.proofs.lemmas.Bool.{and_parts, or_right}
+use Rattle.std.proofs.lemmas.Bool.{and_parts, or_right, cases_lt}
+use Rattle.std.proofs.lemmas.Bool.Decides.{nat_tests}
+use Rattle.std.proofs.lemmas.List.{drop_all}
+use Rattle.std.specs.declared.cmp.Ordering.{Ordering}
 use Rattle.mg_word.specs.Orders.{lit_cmp}
 use Rattle.mg_word.specs.OrderLaws.{lit_total, lit_same}
 use Rattle.mg_word.specs.Sets.{same_lit, holds, is_part, is_below_first, is_rising}
@@ -52,7 +55,8 @@ module _ (part whole : List Lit) (i j : ℕ) (lit held : Lit) (inside : i < leng
   merge_less less =
       let first = at_drop part i lit inside here in
       let second = at_drop whole j held within there in
-      rw (first, second) (part_less lit held (drop (i + 1) part) (drop (j + 1) whole) (rw second at (rising_drop j whole above)) less)
+      ap (λ lits. is_part lits (drop j whole)) first ∙ ap (λ lits. is_part (lit ∷ drop (i + 1) part) lits) second
+      ∙ part_less lit held (drop (i + 1) part) (drop (j + 1) whole) (rw second at (rising_drop j whole above)) less
 
   pub merge_equal : lit_cmp lit held ≡ Equal → is_part (drop i part) (drop j whole) ≡ is_part (drop (i + 1) part) (drop (j + 1) whole)
   merge_equal tie =
@@ -73,3 +77,21 @@ pub part_of_none : (part : List Lit) (i : ℕ) → i < length part → is_part (
 part_of_none [] i inside = absurd (omega arith)
 part_of_none (lit ∷ part) zero inside = refl
 part_of_none (lit ∷ part) (suc i) inside = part_of_none part i (omega arith)
+
+-- at the end of the second list, the first is done or something is missing
+pub merge_done : (part whole : List Lit) (i j : ℕ) → i ≤ length part → length whole ≤ j → nat_eq i (length part) ≡ is_part (drop i part) (drop j whole)
+merge_done part whole i j inside past = elim (cases_lt i (length part)) [
+  | inl before ↦ rw (drop_all j whole past) (nat_eq_false i (length part) (omega arith) ∙ sym (part_of_none part i before))
+  | inr after ↦ rw (drop_all i part after) (nat_eq_true i (length part) (omega arith))
+]
+  where
+    nat_eq_true : (a b : ℕ) → a ≡ b → nat_eq a b ≡ true
+    nat_eq_true a b same = grind (arith, nat_tests)
+
+    nat_eq_false : (a b : ℕ) → a < b → nat_eq a b ≡ false
+    nat_eq_false a b less = grind (arith, nat_tests)
+
+pub is_greater : (answer : Ordering) → is_lt answer ≡ false → is_eq answer ≡ false → answer ≡ Greater
+is_greater Less first second = cc
+is_greater Equal first second = cc
+is_greater Greater first second = refl

@@ -1,11 +1,10 @@
 -- Rising lists of literals: a set has one, and `set_of` is it.
-use Rattle.std.proofs.Common.{◌≡◌, ℕ, ◌<◌, zero, suc, Bool, true, false, true≢false, ◌||◌, ◌&&◌, List, [], ◌∷◌, length, get_or, All, Contains, Decides, IsTrue, inl, inr, ◌⊎◌, refl, sym, ap, ◌∙◌, arith}
-use Rattle.std.specs.List.{list_any}
+use Rattle.std.proofs.Common.{◌≡◌, zero, suc, Bool, true, false, true≢false, ◌||◌, List, [], ◌∷◌, All, Contains, Decides, refl, sym, ap, ◌∙◌, arith}
 use Rattle.std.specs.List.Sorted.{IsStrictlySortedBy}
 use Rattle.std.specs.declared.cmp.Ordering.{Ordering}
 use Rattle.std.specs.declared.cmp.Ordering.TheVariants.{Less, Equal, Greater}
 use Rattle.std.specs.Ordering.{is_lt, ordering_reverse}
-use Rattle.std.proofs.lemmas.Bool.{and_parts, and_from, cases_Bool}
+use Rattle.std.proofs.lemmas.Bool.{and_parts, and_from}
 use Rattle.std.proofs.lemmas.Bool.Decides.{same_from_decides}
 use Rattle.std.proofs.lemmas.Cmp.{tied_itself}
 use Rattle.std.proofs.lemmas.List.Elements.{All-head}
@@ -16,7 +15,7 @@ use Rattle.mg_word.specs.OrderLaws.{lit_total, lit_same, lits_equal}
 use Rattle.mg_word.specs.Sets.{same_lit, holds, is_below_first, is_rising, placed, with_lit, set_of}
 use Rattle.mg_word.specs.declared.lit.Lit.{Lit}
 
-is_less : (answer : Ordering) → is_lt answer ≡ true → answer ≡ Less
+pub is_less : (answer : Ordering) → is_lt answer ≡ true → answer ≡ Less
 is_less Less e = refl
 is_less Equal e = cc
 is_less Greater e = cc

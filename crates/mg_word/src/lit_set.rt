@@ -91,4 +91,18 @@ impl LitSet {
         }
         done == part.len()
     }
+
+    /// The set with one literal more.
+    pub fn with(self, lit: Lit) -> Result<LitSet, NoMemory>
+        ensures { IfOk result (λ set. set ≡ with_lit self lit) }
+    {
+        match self.lits.as_slice().binary_search(&lit) {
+            Ok(_) => Ok(self),
+            Err(at) => {
+                let mut lits = self.lits;
+                lits.insert(at, lit)?;
+                Ok(LitSet { lits })
+            }
+        }
+    }
 }

@@ -1,5 +1,3 @@
-use Rattle.std.specs.List.{dedup}
-use Rattle.std.proofs.Common.{sym, ◌∙◌}
 use Rattle.std.proofs.lemmas.List.Filters.{dedup_is}
 use Rattle.mg_word.specs.Sets.{same_lit}
 use Rattle.mg_word.proofs.SortedLits.{deduped_rises, deduped_set}
