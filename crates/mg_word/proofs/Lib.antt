@@ -5,3 +5,4 @@ pub mod Sorting
 pub mod RisingLists
 pub mod SortedLits
 pub mod Merging
+pub mod SameTables

@@ -13,6 +13,7 @@ mod memory;
 mod orders;
 mod pattern;
 mod problem;
+mod same;
 mod spelling;
 mod subst;
 mod symbol;
