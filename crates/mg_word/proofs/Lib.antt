@@ -6,3 +6,5 @@ pub mod RisingLists
 pub mod SortedLits
 pub mod Merging
 pub mod SameTables
+pub mod SpelledNames
+pub mod SpelledTerms

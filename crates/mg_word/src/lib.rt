@@ -2,6 +2,7 @@
 #![tactic(auto)]
 
 mod clause;
+mod crossing;
 mod form;
 mod input;
 mod instances;
