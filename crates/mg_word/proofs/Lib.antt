@@ -8,3 +8,4 @@ pub mod Merging
 pub mod SameTables
 pub mod SpelledNames
 pub mod SpelledTerms
+pub mod SpelledWords

@@ -46,13 +46,13 @@ escape_cases quote byte = by (nat_eq byte quote) refl (nat_eq byte 92) refl
 quotes_same : (quote : ℕ) → quote ≢ 92 → (a b more further : List ℕ) → flat_map (escaped quote) a ++ quote ∷ more ≡ flat_map (escaped quote) b ++ quote ∷ further → (a ≡ b) × (more ≡ further)
 quotes_same quote plain [] [] more further e = (refl, cc)
 quotes_same quote plain [] (y ∷ b) more further e = elim (escape_cases quote y) [
-    inl is ↦ let e' : quote ∷ more ≡ 92 ∷ y ∷ (flat_map (escaped quote) b ++ quote ∷ further) = rw is at e in absurd (plain cc)
+  | inl is ↦ let e' : quote ∷ more ≡ 92 ∷ y ∷ (flat_map (escaped quote) b ++ quote ∷ further) = rw is at e in absurd (plain cc)
   | inr is ↦ let e' : quote ∷ more ≡ y ∷ (flat_map (escaped quote) b ++ quote ∷ further) = rw is.0 at e in absurd (is.1 cc)
-  ]
+]
 quotes_same quote plain (x ∷ a) [] more further e = elim (escape_cases quote x) [
-    inl is ↦ let e' : 92 ∷ x ∷ (flat_map (escaped quote) a ++ quote ∷ more) ≡ quote ∷ further = rw is at e in absurd (plain cc)
+  | inl is ↦ let e' : 92 ∷ x ∷ (flat_map (escaped quote) a ++ quote ∷ more) ≡ quote ∷ further = rw is at e in absurd (plain cc)
   | inr is ↦ let e' : x ∷ (flat_map (escaped quote) a ++ quote ∷ more) ≡ quote ∷ further = rw is.0 at e in absurd (is.1 cc)
-  ]
+]
 quotes_same quote plain (x ∷ a) (y ∷ b) more further e = by (escape_cases quote x) (escape_cases quote y) (quotes_same quote plain a b more further)
   where
     by : (escaped quote x ≡ 92 ∷ x ∷ []) ⊎ ((escaped quote x ≡ x ∷ []) × (x ≢ quote) × (x ≢ 92)) → (escaped quote y ≡ 92 ∷ y ∷ []) ⊎ ((escaped quote y ≡ y ∷ []) × (y ≢ quote) × (y ≢ 92))

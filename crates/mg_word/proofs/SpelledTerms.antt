@@ -51,7 +51,7 @@ after_same these those more further agree [] [] wanted needed deep is is' made m
     let here = none_left wanted these is made in
     let there = none_left needed those is' made' in
     let e' : more ≡ further =
-        sym (ap (λ symbols. spelled_within [] (map symbol_piece symbols) ++ more) here) ∙ e ∙ ap (λ symbols. spelled_within [] (map symbol_piece symbols) ++ further) there in
+    sym (ap (λ symbols. spelled_within [] (map symbol_piece symbols) ++ more) here) ∙ e ∙ ap (λ symbols. spelled_within [] (map symbol_piece symbols) ++ further) there in
     (here ∙ sym there, refl, e')
 after_same these those more further agree [] (n ∷ right) wanted needed deep is is' made made' e = absurd (omega arith)
 after_same these those more further agree (n ∷ left) [] wanted needed deep is is' made made' e = absurd (omega arith)
@@ -126,10 +126,10 @@ all_agree (this ∷ these) (that ∷ those) more further fine good end stop left
     let regroup = append_assoc (spelled_name this.kind this.name) (behind this.arity left ++ rest) more ∙ ap (λ bytes. spelled_name this.kind this.name ++ bytes) (append_assoc (behind this.arity left) rest more) in
     let regroup' = append_assoc (spelled_name that.kind that.name) (behind that.arity right ++ others) further ∙ ap (λ bytes. spelled_name that.kind that.name ++ bytes) (append_assoc (behind that.arity right) others further) in
     let names = name_same this.kind that.kind this.name that.name this.arity that.arity (behind this.arity left ++ (rest ++ more)) (behind that.arity right ++ (others ++ further)) first.0 second.0
-        (stops_behind this.arity left these (this.arity + wanted) more (omega arith) made end) (stops_behind that.arity right those (that.arity + needed) further (omega arith) made' stop)
-        (sym regroup ∙ e ∙ regroup') in
+    (stops_behind this.arity left these (this.arity + wanted) more (omega arith) made end) (stops_behind that.arity right those (that.arity + needed) further (omega arith) made' stop)
+    (sym regroup ∙ e ∙ regroup') in
     let same = behind_same these those more further (all_agree these those more further first.1 second.1 end stop) end stop this.arity that.arity left right (this.arity + wanted) (that.arity + needed) deep
-        (omega arith) (omega arith) made made' names.2 in
+    (omega arith) (omega arith) made made' names.2 in
     let symbols : this ≡ that = λ i. record { name = names.1 i; arity = same.0 i; kind = names.0 i } in
     (cc, same.2, same.3)
 

@@ -16,6 +16,7 @@ mod pattern;
 mod problem;
 mod same;
 mod spelling;
+mod spelling_laws;
 mod subst;
 mod symbol;
 mod text;
@@ -34,6 +35,9 @@ pub use orders::{lit_cmp, lits_cmp, weight, word_cmp};
 pub use pattern::Pattern;
 pub use problem::Problem;
 pub use spelling::{lit_text, push_lit, push_pattern_lit, push_word, word_text};
+pub use spelling_laws::{
+    lits_are_spelled_apart, symbols_are_spelled_apart, words_are_spelled_apart,
+};
 pub use subst::Subst;
 pub use symbol::{Kind, Symbols};
 pub use text::Text;
