@@ -1,9 +1,13 @@
 pub mod Facts
 pub mod Forms
 pub mod Held
+pub mod OneSpelling
 pub mod OrderLaws
 pub mod Orders
 pub mod Seen
 pub mod Sets
+pub mod Spelling
+pub mod SymbolLaws
+pub mod SymbolOrder
 pub mod Table
 pub mod Words
