@@ -1,0 +1,4 @@
+pub mod Faults
+pub mod Free
+pub mod Renumbering
+pub mod Building
