@@ -1,6 +1,7 @@
 -- What the steps of forming answer. No public clause cites this module.
 use Rattle.std.specs.Prelude.{◌≡◌, ℕ, ◌+◌, ◌≤◌, ◌<◌, Bool, true, List, [], ◌∷◌, ◌++◌, length}
 use Rattle.std.specs.List.{list_all}
+use Rattle.mg_word.specs.Facts.{most_parts}
 use Rattle.mg_word.specs.Forms.{is_restricted, clause_forms}
 use Rattle.mg_word.specs.declared.clause.Clause.{Clause}
 use Rattle.mg_word.specs.declared.form.Form.{Form}
@@ -40,3 +41,8 @@ pub record IsPushed (old new : List Form) (index : ℕ) (clause : Clause) : Type
   pub added : new ≡ old ++ clause_forms index clause
   pub few : length new ≤ most_forms
   pub restricted : list_all is_restricted (clause_forms index clause) ≡ true
+
+-- the literals and the variables of the clause are few enough to be counted
+pub record HasFewParts (clause : Clause) : Type 0 where
+  pub literals : length clause.literals ≤ most_parts
+  pub variables : length clause.variables ≤ most_parts

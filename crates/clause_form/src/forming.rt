@@ -5,7 +5,7 @@ ghost use Rattle.std.specs.List.{list_all};
 ghost use Rattle.mg_word.specs.Forms as forms;
 ghost use Rattle.mg_word.specs.Facts.{most_parts};
 ghost use Rattle.clause_form.specs.Faults.{most_forms, is_light, is_light_clause, is_faultless, IsFirstHeavy, Stands};
-ghost use Rattle.clause_form.specs.Building.{IsRefused, RefusesForm, RefusesClause, IsPushed};
+ghost use Rattle.clause_form.specs.Building.{IsRefused, RefusesForm, RefusesClause, IsPushed, HasFewParts};
 
 use crate::FormFault;
 use crate::sides::{further_form_of, plain_form_of};
@@ -107,7 +107,29 @@ fn push_forms(
     }
     push_form(others, plain_form_of(alloc, index, clause)?)?;
     for chosen in clause.conclude.as_slice() {
-        push_form(others, further_form_of(alloc, index, clause, chosen.as_slice())?)?;
+        let form = further_form_of(alloc, index, clause, chosen.as_slice())?;
+        match push_form(others, form) {
+            Ok(()) => {}
+            Err(fault) => return Err(fault),
+        }
     }
     Ok(())
+}
+
+// The forms of the clauses, up to the first fault.
+fn all_forms(alloc: Global, clauses: &[Clause]) -> Result<Vec<Form>, FormFault>
+    requires few { length clauses.now ≤ most_parts }
+    requires sizes { All HasFewParts clauses.now }
+    ensures { MatchResult result
+        (λ built. (built.items ≡ forms.forms_of clauses.now) × (is_faultless clauses.now ≡ true))
+        (Stands clauses.now) }
+{
+    let mut built = Vec::new(alloc);
+    for (index, clause) in clauses.iter().enumerate() {
+        match push_forms(alloc, &mut built, index as u32, clause) {
+            Ok(()) => {}
+            Err(fault) => return Err(fault),
+        }
+    }
+    Ok(built)
 }
