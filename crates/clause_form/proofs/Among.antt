@@ -68,7 +68,7 @@ all_among_head : (x v : ℕ) (xs ys : List ℕ) (same_one : Bool) → nat_eq x v
 all_among_head x v xs ys true e among rest = rw (← same x v e) (rw among refl)
 all_among_head x v xs ys false e among rest = rest
 
-both_true : (a b : Bool) → (a && b) ≡ true → (a ≡ true) × (b ≡ true)
+pub both_true : (a b : Bool) → (a && b) ≡ true → (a ≡ true) × (b ≡ true)
 both_true true b e = (refl, e)
 both_true false b e = cc
 

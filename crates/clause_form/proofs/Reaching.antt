@@ -60,3 +60,50 @@ form_names index clause earlier form later are =
     let at : length earlier < length (earlier ++ form ∷ later) = rw (length-append earlier (form ∷ later)) (omega arith) in
     let here = subst (λ forms. length earlier < length forms) (sym are) at in
     ap (λ (f : Form). f.clause) (sym (get_or-append_seam earlier form later form) ∙ ap (λ forms. get_or forms (length earlier) form) (sym are)) ∙ forms_name index clause (is_always_true clause.literals) (length earlier) form here
+
+reached : (clauses : List Clause) (i : ℕ) (clause : Clause) (built : List Form) (at number : ℕ) (form : Form) (earlier later : List Form) → i < length clauses → clause ≡ get_or clauses i clause → built ≡ forms_of (take i clauses) → is_faultless (take i clauses) ≡ true → is_light_clause clause ≡ true
+    → at ≡ i → clause_forms i clause ≡ earlier ++ form ∷ later → list_all is_restricted earlier ≡ true → number ≡ length built + length earlier + 1 → number ≤ most_forms + 1 → IsReached clauses at number form
+reached clauses i clause built at number form earlier later h is built_is faultless light named are restricted number_is few = record {
+  before = take i clauses; clause = clause; after = drop (i + 1) clauses;
+  clauses_are = split_at clauses i clause h is;
+  index_is = omega (arith, named, length-take i clauses);
+  faultless = faultless;
+  light = light;
+  earlier = earlier; later = later;
+  forms_are = ap (λ n. clause_forms n clause) named ∙ are;
+  number_is = number_is ∙ ap (λ forms. length forms + length earlier + 1) built_is;
+  few = few;
+  restricted = restricted;
+}
+
+-- a fault at a clause that has no fault before it
+pub stands_at : (clauses : List Clause) (i : ℕ) (clause : Clause) (built : List Form) (fault : FormFault) → i < length clauses → clause ≡ get_or clauses i clause → built ≡ forms_of (take i clauses) → is_faultless (take i clauses) ≡ true → RefusesClause (length built) i clause fault → Stands clauses fault
+stands_at clauses i clause built (TooHeavy at position) h is built_is faultless r = record {
+  before = take i clauses; clause = clause; after = drop (i + 1) clauses;
+  clauses_are = split_at clauses i clause h is;
+  index_is = omega (arith, r.0, length-take i clauses);
+  faultless = faultless;
+  first = r.1;
+}
+stands_at clauses i clause built (TooManyForms at) h is built_is faultless r =
+    let named = r.1.refused.0 ∙ form_names i clause r.1.earlier r.1.form r.1.later r.1.forms_are in
+    (r.1.form, reached clauses i clause built at (most_forms + 1) r.1.form r.1.earlier r.1.later h is built_is faultless r.0 named r.1.forms_are r.1.restricted (ap (λ n. n + 1) (sym r.1.refused.1)) (omega arith))
+stands_at clauses i clause built (NotRestricted at number variable) h is built_is faultless r =
+    let named = r.1.refused.0 ∙ form_names i clause r.1.earlier r.1.form r.1.later r.1.forms_are in
+    let count : number ≤ most_forms = omega (arith, r.1.refused.1, r.1.refused.2) in
+    (r.1.form, reached clauses i clause built at number r.1.form r.1.earlier r.1.later h is built_is faultless r.0 named r.1.forms_are r.1.restricted r.1.refused.2 (omega arith), count, r.1.refused.3)
+stands_at clauses i clause built NoMemory h is built_is faultless r = tt
+
+-- and where it has none
+pub pushed_on : (clauses : List Clause) (i : ℕ) (clause : Clause) (built more : List Form) → i < length clauses → clause ≡ get_or clauses i clause → built ≡ forms_of (take i clauses) → is_faultless (take i clauses) ≡ true → IsPushed built more i clause
+    → (more ≡ forms_of (take (i + 1) clauses)) × (is_faultless (take (i + 1) clauses) ≡ true)
+pushed_on clauses i clause built more h is built_is faultless pushed =
+    let next : take (i + 1) clauses ≡ take i clauses ++ clause ∷ [] = take_more clauses i clause h ∙ ap (λ x. take i clauses ++ x ∷ []) (sym is) in
+    let at : length (take i clauses) ≡ i = omega (arith, length-take i clauses) in
+    let forms_are : forms_of (take (i + 1) clauses) ≡ forms_of (take i clauses) ++ clause_forms i clause =
+    ap forms_of next ∙ forms_of-push (take i clauses) clause ∙ ap (λ n. forms_of (take i clauses) ++ clause_forms n clause) at in
+    let more_is : more ≡ forms_of (take (i + 1) clauses) = pushed.added ∙ ap (λ r. r ++ clause_forms i clause) built_is ∙ sym forms_are in
+    let few : length (forms_of (take i clauses)) + length (clause_forms i clause) ≤ most_forms =
+    subst (λ n. n ≤ most_forms) (ap length (pushed.added ∙ ap (λ r. r ++ clause_forms i clause) built_is) ∙ length-append (forms_of (take i clauses)) (clause_forms i clause)) pushed.few in
+    (more_is,
+    ap is_faultless next ∙ faultless_push (take i clauses) clause faultless pushed.light (subst (λ n. length (forms_of (take i clauses)) + length (clause_forms n clause) ≤ most_forms) (sym at) few) (ap (λ n. list_all is_restricted (clause_forms n clause)) at ∙ pushed.restricted))
