@@ -1,4 +1,5 @@
+pub mod Building
 pub mod Faults
+pub mod Forming
 pub mod Free
 pub mod Renumbering
-pub mod Building

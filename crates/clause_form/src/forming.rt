@@ -116,8 +116,8 @@ fn push_forms(
     Ok(())
 }
 
-// The forms of the clauses, up to the first fault.
-fn all_forms(alloc: Global, clauses: &[Clause]) -> Result<Vec<Form>, FormFault>
+/// The forms of the clauses, up to the first fault.
+pub fn all_forms(alloc: Global, clauses: &[Clause]) -> Result<Vec<Form>, FormFault>
     requires few { length clauses.now ≤ most_parts }
     requires sizes { All HasFewParts clauses.now }
     ensures { MatchResult result

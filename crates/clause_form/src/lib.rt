@@ -3,9 +3,11 @@
 
 mod fault;
 mod forming;
+mod problem;
 mod renumbering;
 mod sides;
 mod variables;
 
 pub use fault::FormFault;
+pub use problem::forms_of;
 pub use variables::free_variable;
