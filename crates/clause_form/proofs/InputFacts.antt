@@ -2,8 +2,8 @@
 use Rattle.std.proofs.Common.{◌≡◌, ℕ, zero, suc, ◌+◌, ◌<◌, ◌≤◌, Bool, true, false, ◌&&◌, List, [], ◌∷◌, ◌++◌, length, map, refl, sym, ◌∙◌, ap, subst, arith, All, Option, Some, None, slice_get, slice_index, slice_index_or, nat_lt, IsTrue, IsPermutation, true≢false}
 use Rattle.std.proofs.lemmas.List.{length-map}
 use Rattle.std.proofs.lemmas.List.Folds.{list_all-map}
-use Rattle.std.proofs.lemmas.List.Elements.{All-map}
-use Rattle.std.proofs.lemmas.List.Sorted.{IsPermutation-keeps}
+use Rattle.std.proofs.lemmas.List.Elements.{All-nil, All-cons, All-head, All-tail}
+use Rattle.std.proofs.lemmas.List.Sorted.{All-permutation}
 use Rattle.std.proofs.lemmas.Option.{slice_get-map, slice_get_within}
 use Rattle.std.specs.List.{list_all, flat_map}
 use Rattle.std.specs.Option.{option_map, option_map_or}
@@ -83,7 +83,7 @@ all_choices_mapped n literals (chosen ∷ items) =
     ap (λ b. b && list_all (are_choices 0 (map (literal_renumbered n) literals)) items) (choices_mapped n literals 0 chosen) ∙ ap (λ b. are_choices 0 literals chosen && b) (all_choices_mapped n literals items)
 
 -- a clause keeps its facts
-clause_kept : (before after : List Symbol) (n : List ℕ) (files : ℕ) (clause : Clause) → IsRenumbering before after n → IsClause before files clause → IsClause after files (clause_renumbered n clause)
+pub clause_kept : (before after : List Symbol) (n : List ℕ) (files : ℕ) (clause : Clause) → IsRenumbering before after n → IsClause before files clause → IsClause after files (clause_renumbered n clause)
 clause_kept before after n files clause r facts = record {
   fitting = literals_fit_mapped before after n (length clause.variables) clause.literals r facts.fitting;
   occurring = λ variable h. ap (λ vs. is_among vs variable) (literal_variables_mapped n clause.literals) ∙ facts.occurring variable h;
@@ -92,3 +92,16 @@ clause_kept before after n files clause r facts = record {
   literals = let e = length-map clause.literals (literal_renumbered n) in omega (arith, facts.literals);
   variables = facts.variables;
 }
+
+All-from_list_all : {X : Type 0} (p : X → Bool) (xs : List X) → list_all p xs ≡ true → All (λ x. p x ≡ true) xs
+All-from_list_all p [] e = All-nil (λ x. p x ≡ true)
+All-from_list_all p (x ∷ xs) e =
+    let both = both_true (p x) (list_all p xs) e in All-cons (λ x. p x ≡ true) x xs both.0 (All-from_list_all p xs both.1)
+
+list_all-from_All : {X : Type 0} (p : X → Bool) (xs : List X) → All (λ x. p x ≡ true) xs → list_all p xs ≡ true
+list_all-from_All p [] all = refl
+list_all-from_All p (x ∷ xs) all = rw (All-head (λ x. p x ≡ true) x xs all) (list_all-from_All p xs (All-tail (λ x. p x ≡ true) x xs all))
+
+-- the symbols are right in any order
+pub symbols_kept : (before after : List Symbol) → IsPermutation before after → list_all is_symbol before ≡ true → list_all is_symbol after ≡ true
+symbols_kept before after permuted e = list_all-from_All is_symbol after (All-permutation (λ symbol. is_symbol symbol ≡ true) before after permuted (All-from_list_all is_symbol before e))

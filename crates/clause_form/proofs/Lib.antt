@@ -1,6 +1,7 @@
 pub mod Among
 pub mod Excluding
 pub mod FormLists
+pub mod Formed
 pub mod InputFacts
 pub mod Reaching
 pub mod Renumbered
