@@ -1,8 +1,8 @@
 -- The variables of lists of items and literals, one more at a time.
 use Rattle.std.proofs.Common.{◌≡◌, ℕ, ◌+◌, ◌<◌, ◌≤◌, Bool, true, false, ◌&&◌, ◌||◌, not, List, [], ◌∷◌, ◌++◌, length, get_or, take, refl, sym, ◌∙◌, ap, subst, arith, Option, Some, None, nat_lt, nat_eq, if◌then◌else◌}
-use Rattle.std.proofs.lemmas.List.{take_more, take_all}
+use Rattle.std.proofs.lemmas.List.{take_more}
 use Rattle.std.proofs.lemmas.List.Folds.{list_any-append, list_any_at}
-use Rattle.std.proofs.lemmas.Grind.{flat_map-append, common_steps}
+use Rattle.std.proofs.lemmas.Grind.{flat_map-append}
 use Rattle.std.proofs.lemmas.Bool.Decides.{nat_tests}
 use Rattle.std.specs.List.{flat_map, list_any, list_all}
 use Rattle.mg_word.specs.Forms.{is_among, is_restricted, lits_variables}
@@ -45,12 +45,16 @@ itself : (x : ℕ) → nat_eq x x ≡ true
 itself x = grind (arith, nat_tests)
 
 least_of_both : (a b : List ℕ) (from x y : ℕ) → IsLeastFrom a from (Some x) → IsLeastFrom b from (Some y) → (test : Bool) → nat_lt x y ≡ test → IsLeastFrom (a ++ b) from (if test then Some x else Some y)
-least_of_both a b from x y l r true e =
-    (l.0, rw (among-append a b x) (rw l.1 refl),
-    λ other h k. let less = below x y e in let further : other < y = omega arith in rw (among-append a b other) (rw (l.2 other h k) (r.2 other h further)))
-least_of_both a b from x y l r false e =
-    (r.0, rw (among-append a b y) (or_true (is_among a y) (is_among b y) r.1),
-    λ other h k. let less = not_below x y e in let further : other < x = omega arith in rw (among-append a b other) (rw (l.2 other h further) (r.2 other h k)))
+least_of_both a b from x y l r true e = (
+  l.0,
+  rw (among-append a b x) (rw l.1 refl),
+  λ other h k. let less = below x y e in let further : other < y = omega arith in rw (among-append a b other) (rw (l.2 other h k) (r.2 other h further)),
+)
+least_of_both a b from x y l r false e = (
+  r.0,
+  rw (among-append a b y) (or_true (is_among a y) (is_among b y) r.1),
+  λ other h k. let less = not_below x y e in let further : other < x = omega arith in rw (among-append a b other) (rw (l.2 other h further) (r.2 other h k)),
+)
 
 -- the variables of two lists together
 pub least_joined : (a b : List ℕ) (from : ℕ) (f g : Option ℕ) → IsLeastFrom a from f → IsLeastFrom b from g → IsLeastFrom (a ++ b) from (lesser f g)

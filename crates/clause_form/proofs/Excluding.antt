@@ -1,5 +1,5 @@
 -- Clauses that have a fault are not without one.
-use Rattle.std.proofs.Common.{◌≡◌, ◌≢◌, ℕ, ◌+◌, ◌<◌, ◌≤◌, Bool, true, false, ◌&&◌, List, [], ◌∷◌, ◌++◌, length, refl, sym, ◌∙◌, ap, subst, arith, append_assoc, true≢false, nat_le}
+use Rattle.std.proofs.Common.{◌≡◌, ◌≢◌, ℕ, ◌+◌, ◌≤◌, Bool, true, ◌&&◌, List, ◌∷◌, ◌++◌, length, refl, sym, ◌∙◌, ap, arith, append_assoc, true≢false, nat_le}
 use Rattle.std.proofs.lemmas.List.{length-append}
 use Rattle.std.proofs.lemmas.List.Folds.{list_all-append}
 use Rattle.std.proofs.lemmas.Bool.Decides.{nat_tests}
@@ -8,7 +8,7 @@ use Rattle.mg_word.specs.Forms.{clause_forms, forms_from, forms_of, is_restricte
 use Rattle.mg_word.specs.declared.clause.ClauseLit.{ClauseLit}
 use Rattle.mg_word.specs.declared.clause.Clause.{Clause}
 use Rattle.mg_word.specs.declared.form.Form.{Form}
-use Rattle.clause_form.specs.Faults.{most_forms, is_light, is_light_clause, is_faultless, IsFirstHeavy, StandsHeavy, IsReached, Stands}
+use Rattle.clause_form.specs.Faults.{most_forms, is_light, is_light_clause, is_faultless, IsFirstHeavy, IsReached, Stands}
 use Rattle.clause_form.specs.declared.fault.FormFault.{FormFault}
 use Rattle.clause_form.specs.declared.fault.FormFault.TheVariants.{TooHeavy, TooManyForms, NotRestricted, NoMemory}
 use Rattle.clause_form.proofs.Among.{both_true, not_restricted}
@@ -46,9 +46,10 @@ reached_fine clauses index number form r e =
     let count : length (forms_of clauses) ≡ length (forms_of r.before) + length r.earlier + length (form ∷ rest) =
     ap length around ∙ length-append (forms_of r.before ++ r.earlier) (form ∷ rest) ∙ ap (λ m. m + length (form ∷ rest)) (length-append (forms_of r.before) r.earlier) in
     let few = few_of (length (forms_of clauses)) inner.0 in
-    let step : 1 ≤ length (form ∷ rest) = omega arith in
-    (all_within is_restricted (forms_of r.before ++ r.earlier) form rest (ap (list_all is_restricted) (sym around) ∙ inner.1),
-    omega (arith, r.number_is))
+    let step : 1 ≤ length (form ∷ rest) = omega arith in (
+      all_within is_restricted (forms_of r.before ++ r.earlier) form rest (ap (list_all is_restricted) (sym around) ∙ inner.1),
+      omega (arith, r.number_is),
+    )
 
 pub fault_excluded : (clauses : List Clause) (fault : FormFault) → fault ≢ NoMemory → Stands clauses fault → is_faultless clauses ≡ true → ⊥
 fault_excluded clauses (TooHeavy index position) known r e =

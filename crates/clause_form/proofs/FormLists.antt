@@ -1,13 +1,13 @@
 -- The forms of a clause, one after another.
-use Rattle.std.proofs.Common.{◌≡◌, ℕ, ◌+◌, ◌<◌, ◌≤◌, Bool, true, false, ◌&&◌, List, [], ◌∷◌, ◌++◌, length, get_or, take, drop, map, refl, sym, ◌∙◌, ap, subst, arith, append_assoc, if◌then◌else◌}
+use Rattle.std.proofs.Common.{◌≡◌, ℕ, ◌+◌, ◌<◌, true, false, List, [], ◌∷◌, ◌++◌, length, get_or, take, drop, map, refl, sym, ◌∙◌, ap, subst, if◌then◌else◌}
 use Rattle.std.proofs.lemmas.List.{take_more, map-append, length-append}
 use Rattle.std.proofs.lemmas.List.Folds.{list_all-append}
 use Rattle.std.specs.List.{list_all}
 use Rattle.mg_word.specs.Forms.{plain_form, further_form, clause_forms, is_always_true, is_restricted}
 use Rattle.mg_word.specs.declared.clause.Clause.{Clause}
 use Rattle.mg_word.specs.declared.form.Form.{Form}
-use Rattle.clause_form.specs.Faults.{most_forms, is_light_clause}
-use Rattle.clause_form.specs.Building.{IsRefused, RefusesForm, RefusesClause, IsPushed}
+use Rattle.clause_form.specs.Faults.{is_light_clause}
+use Rattle.clause_form.specs.Building.{IsRefused, RefusesForm, RefusesClause}
 use Rattle.clause_form.specs.declared.fault.FormFault.{FormFault}
 use Rattle.clause_form.specs.declared.fault.FormFault.TheVariants.{TooHeavy, TooManyForms, NotRestricted, NoMemory}
 use Rattle.clause_form.proofs.Splits.{split_at}
@@ -37,7 +37,11 @@ first_forms-split index clause n chosen e h is =
 -- a form that may not come after the others and these
 pub refused_at : (all earlier : List Form) (form : Form) (later old others : List Form) (fault : FormFault) → all ≡ earlier ++ form ∷ later → list_all is_restricted earlier ≡ true → others ≡ old ++ earlier → IsRefused (length others) form fault → RefusesForm (length old) all fault
 refused_at all earlier form later old others fault are restricted is refused = record {
-  earlier = earlier; form = form; later = later; forms_are = are; restricted = restricted;
+  earlier = earlier;
+  form = form;
+  later = later;
+  forms_are = are;
+  restricted = restricted;
   refused = let e : length others ≡ length old + length earlier = ap length is ∙ length-append old earlier in subst (λ n. IsRefused n form fault) e refused;
 }
 

@@ -1,13 +1,11 @@
 -- The problem that is formed: its facts, and that it is the input's.
-use Rattle.std.proofs.Common.{◌≡◌, ◌≢◌, ℕ, Bool, true, List, length, map, refl, sym, ◌∙◌, ap, subst, arith, All, IsPermutation, ◌≤◌, ◌&&◌, nat_le, get_or, ◌<◌}
+use Rattle.std.proofs.Common.{◌≡◌, ◌≢◌, ℕ, true, List, length, sym, ◌∙◌, ap, subst, arith, All, ◌&&◌, nat_le}
 use Rattle.std.proofs.lemmas.List.{length-map}
 use Rattle.std.proofs.lemmas.List.Elements.{All-map, All-weaker}
-use Rattle.std.proofs.lemmas.List.Sorted.{All-permutation}
-use Rattle.std.proofs.lemmas.List.Sums.{AllPass-from_list_all, list_all-from_AllPass}
 use Rattle.std.specs.List.{list_all}
 use Rattle.mg_word.specs.Table.{Symbol}
 use Rattle.mg_word.specs.Forms.{forms_of, is_restricted}
-use Rattle.mg_word.specs.Facts.{InputData, ProblemData, IsClause, IsInput, IsProblem, is_symbol}
+use Rattle.mg_word.specs.Facts.{InputData, ProblemData, IsClause, IsInput, IsProblem}
 use Rattle.mg_word.specs.SymbolOrder.{IsSortedTable}
 use Rattle.mg_word.specs.declared.clause.Clause.{Clause}
 use Rattle.mg_word.specs.declared.form.Form.{Form}
@@ -27,7 +25,7 @@ pub input_kept : (before after : List Symbol) (n : List ℕ) (files : List (List
 input_kept before after n files clauses sorted facts = record {
   named = symbols_kept before after sorted.permuted facts.named;
   each = All-map (IsClause after (length files)) (clause_renumbered n) clauses
-  (All-weaker (IsClause before (length files)) (λ clause. IsClause after (length files) (clause_renumbered n clause)) (λ clause. clause_kept before after n (length files) clause sorted.renumbered) clauses facts.each);
+      (All-weaker (IsClause before (length files)) (λ clause. IsClause after (length files) (clause_renumbered n clause)) (λ clause. clause_kept before after n (length files) clause sorted.renumbered) clauses facts.each);
   few = let e = length-map clauses (clause_renumbered n) in omega (arith, facts.few);
 }
 

@@ -1,24 +1,22 @@
 -- The facts of an input hold of its clauses over the sorted symbols.
-use Rattle.std.proofs.Common.{◌≡◌, ℕ, zero, suc, ◌+◌, ◌<◌, ◌≤◌, Bool, true, false, ◌&&◌, List, [], ◌∷◌, ◌++◌, length, map, refl, sym, ◌∙◌, ap, subst, arith, All, Option, Some, None, slice_get, slice_index, slice_index_or, nat_lt, IsTrue, IsPermutation, true≢false}
+use Rattle.std.proofs.Common.{◌≡◌, ℕ, zero, suc, ◌+◌, Bool, true, false, ◌&&◌, List, [], ◌∷◌, ◌++◌, length, map, refl, sym, ◌∙◌, ap, arith, All, Option, Some, None, slice_get, slice_index_or, nat_lt, IsPermutation, true≢false}
 use Rattle.std.proofs.lemmas.List.{length-map}
-use Rattle.std.proofs.lemmas.List.Folds.{list_all-map}
 use Rattle.std.proofs.lemmas.List.Elements.{All-nil, All-cons, All-head, All-tail}
 use Rattle.std.proofs.lemmas.List.Sorted.{All-permutation}
 use Rattle.std.proofs.lemmas.Option.{slice_get-map, slice_get_within}
 use Rattle.std.specs.List.{list_all, flat_map}
 use Rattle.std.specs.Option.{option_map, option_map_or}
 use Rattle.mg_word.specs.Table.{Symbol}
-use Rattle.mg_word.specs.Words.{are_patterns, pattern_fits, numbered}
-use Rattle.mg_word.specs.Forms.{is_among, forms_of, is_restricted}
-use Rattle.mg_word.specs.Facts.{IsClause, IsInput, literal_fits, literal_variables, is_choosable, are_choices, is_symbol, most_parts}
-use Rattle.mg_word.specs.SymbolOrder.{IsRenumbering, IsSortedTable}
+use Rattle.mg_word.specs.Words.{are_patterns, numbered}
+use Rattle.mg_word.specs.Forms.{is_among}
+use Rattle.mg_word.specs.Facts.{IsClause, literal_fits, literal_variables, is_choosable, are_choices, is_symbol}
+use Rattle.mg_word.specs.SymbolOrder.{IsRenumbering}
 use Rattle.mg_word.specs.declared.item.Item.{Item}
 use Rattle.mg_word.specs.declared.item.Item.TheVariants.{Sym, Var}
 use Rattle.mg_word.specs.declared.clause.ClauseLit.{ClauseLit}
 use Rattle.mg_word.specs.declared.clause.ClauseLit.TheVariants.{True, False, Lit as Literal}
 use Rattle.mg_word.specs.declared.clause.Clause.{Clause}
-use Rattle.clause_form.specs.Building.{HasFewParts}
-use Rattle.clause_form.specs.Renumbering.{item_renumbered, pattern_renumbered, literal_renumbered, clause_renumbered, renumbered}
+use Rattle.clause_form.specs.Renumbering.{pattern_renumbered, literal_renumbered, clause_renumbered}
 use Rattle.clause_form.proofs.Among.{both_true}
 use Rattle.clause_form.proofs.Renumbered.{variables_mapped}
 

@@ -1,5 +1,6 @@
 pub mod Among
 pub mod Excluding
+pub mod FormFacts
 pub mod FormLists
 pub mod Formed
 pub mod InputFacts

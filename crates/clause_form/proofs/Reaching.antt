@@ -9,9 +9,8 @@ use Rattle.std.specs.List.{list_all}
 use Rattle.mg_word.specs.Forms.{plain_form, further_form, clause_forms, forms_from, forms_of, is_always_true, is_restricted}
 use Rattle.mg_word.specs.declared.clause.Clause.{Clause}
 use Rattle.mg_word.specs.declared.form.Form.{Form}
-use Rattle.clause_form.specs.Free.{IsLeastFree}
-use Rattle.clause_form.specs.Faults.{most_forms, is_light_clause, is_faultless, IsReached, StandsHeavy, Stands}
-use Rattle.clause_form.specs.Building.{IsRefused, RefusesForm, RefusesClause, IsPushed}
+use Rattle.clause_form.specs.Faults.{most_forms, is_light_clause, is_faultless, IsReached, Stands}
+use Rattle.clause_form.specs.Building.{RefusesClause, IsPushed}
 use Rattle.clause_form.specs.declared.fault.FormFault.{FormFault}
 use Rattle.clause_form.specs.declared.fault.FormFault.TheVariants.{TooHeavy, TooManyForms, NotRestricted, NoMemory}
 use Rattle.clause_form.proofs.Splits.{split_at}
@@ -64,12 +63,15 @@ form_names index clause earlier form later are =
 reached : (clauses : List Clause) (i : ℕ) (clause : Clause) (built : List Form) (at number : ℕ) (form : Form) (earlier later : List Form) → i < length clauses → clause ≡ get_or clauses i clause → built ≡ forms_of (take i clauses) → is_faultless (take i clauses) ≡ true → is_light_clause clause ≡ true
     → at ≡ i → clause_forms i clause ≡ earlier ++ form ∷ later → list_all is_restricted earlier ≡ true → number ≡ length built + length earlier + 1 → number ≤ most_forms + 1 → IsReached clauses at number form
 reached clauses i clause built at number form earlier later h is built_is faultless light named are restricted number_is few = record {
-  before = take i clauses; clause = clause; after = drop (i + 1) clauses;
+  before = take i clauses;
+  clause = clause;
+  after = drop (i + 1) clauses;
   clauses_are = split_at clauses i clause h is;
   index_is = omega (arith, named, length-take i clauses);
   faultless = faultless;
   light = light;
-  earlier = earlier; later = later;
+  earlier = earlier;
+  later = later;
   forms_are = ap (λ n. clause_forms n clause) named ∙ are;
   number_is = number_is ∙ ap (λ forms. length forms + length earlier + 1) built_is;
   few = few;
@@ -79,7 +81,9 @@ reached clauses i clause built at number form earlier later h is built_is faultl
 -- a fault at a clause that has no fault before it
 pub stands_at : (clauses : List Clause) (i : ℕ) (clause : Clause) (built : List Form) (fault : FormFault) → i < length clauses → clause ≡ get_or clauses i clause → built ≡ forms_of (take i clauses) → is_faultless (take i clauses) ≡ true → RefusesClause (length built) i clause fault → Stands clauses fault
 stands_at clauses i clause built (TooHeavy at position) h is built_is faultless r = record {
-  before = take i clauses; clause = clause; after = drop (i + 1) clauses;
+  before = take i clauses;
+  clause = clause;
+  after = drop (i + 1) clauses;
   clauses_are = split_at clauses i clause h is;
   index_is = omega (arith, r.0, length-take i clauses);
   faultless = faultless;
@@ -104,6 +108,7 @@ pushed_on clauses i clause built more h is built_is faultless pushed =
     ap forms_of next ∙ forms_of-push (take i clauses) clause ∙ ap (λ n. forms_of (take i clauses) ++ clause_forms n clause) at in
     let more_is : more ≡ forms_of (take (i + 1) clauses) = pushed.added ∙ ap (λ r. r ++ clause_forms i clause) built_is ∙ sym forms_are in
     let few : length (forms_of (take i clauses)) + length (clause_forms i clause) ≤ most_forms =
-    subst (λ n. n ≤ most_forms) (ap length (pushed.added ∙ ap (λ r. r ++ clause_forms i clause) built_is) ∙ length-append (forms_of (take i clauses)) (clause_forms i clause)) pushed.few in
-    (more_is,
-    ap is_faultless next ∙ faultless_push (take i clauses) clause faultless pushed.light (subst (λ n. length (forms_of (take i clauses)) + length (clause_forms n clause) ≤ most_forms) (sym at) few) (ap (λ n. list_all is_restricted (clause_forms n clause)) at ∙ pushed.restricted))
+    subst (λ n. n ≤ most_forms) (ap length (pushed.added ∙ ap (λ r. r ++ clause_forms i clause) built_is) ∙ length-append (forms_of (take i clauses)) (clause_forms i clause)) pushed.few in (
+      more_is,
+      ap is_faultless next ∙ faultless_push (take i clauses) clause faultless pushed.light (subst (λ n. length (forms_of (take i clauses)) + length (clause_forms n clause) ≤ most_forms) (sym at) few) (ap (λ n. list_all is_restricted (clause_forms n clause)) at ∙ pushed.restricted),
+    )

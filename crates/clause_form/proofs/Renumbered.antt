@@ -1,9 +1,8 @@
 -- New numbers of the symbols change neither which forms there are, nor which variables they have, nor which fault stands.
-use Rattle.std.proofs.Common.{◌≡◌, ℕ, zero, suc, ◌+◌, ◌<◌, ◌≤◌, Bool, true, false, ◌&&◌, not, List, [], ◌∷◌, ◌++◌, length, map, refl, sym, ◌∙◌, ap, subst, arith, if◌then◌else◌, nat_le}
+use Rattle.std.proofs.Common.{◌≡◌, ℕ, ◌+◌, Bool, true, false, ◌&&◌, not, List, [], ◌∷◌, ◌++◌, length, map, refl, sym, ◌∙◌, ap, subst, if◌then◌else◌, nat_le}
 use Rattle.std.proofs.lemmas.List.{length-map, map-append}
-use Rattle.std.proofs.lemmas.List.Folds.{list_all-map}
-use Rattle.std.specs.List.{list_all, flat_map}
-use Rattle.mg_word.specs.Forms.{premises_of, conclusions_of, others_from, chosen_from, is_always_true, is_among, opposite, plain_form, further_form, clause_forms, forms_from, forms_of, is_restricted, item_variables, pattern_variables, lits_variables}
+use Rattle.std.specs.List.{list_all}
+use Rattle.mg_word.specs.Forms.{premises_of, conclusions_of, others_from, chosen_from, is_always_true, is_among, opposite, plain_form, further_form, clause_forms, forms_from, forms_of, is_restricted, pattern_variables, lits_variables}
 use Rattle.mg_word.specs.declared.item.Item.{Item}
 use Rattle.mg_word.specs.declared.item.Item.TheVariants.{Sym, Var}
 use Rattle.mg_word.specs.declared.lit.PatLit.{PatLit}
@@ -12,7 +11,7 @@ use Rattle.mg_word.specs.declared.clause.ClauseLit.TheVariants.{True, False, Lit
 use Rattle.mg_word.specs.declared.clause.Clause.{Clause}
 use Rattle.mg_word.specs.declared.form.Form.{Form}
 use Rattle.clause_form.specs.Free.{is_free, IsLeastFree}
-use Rattle.clause_form.specs.Faults.{most_forms, is_light, is_light_clause, is_faultless, IsFirstHeavy, StandsHeavy, IsReached, Stands}
+use Rattle.clause_form.specs.Faults.{most_forms, is_light, is_light_clause, is_faultless, IsFirstHeavy, IsReached, Stands}
 use Rattle.clause_form.specs.Renumbering.{item_renumbered, pattern_renumbered, lit_renumbered, literal_renumbered, clause_renumbered, renumbered}
 use Rattle.clause_form.specs.declared.fault.FormFault.{FormFault}
 use Rattle.clause_form.specs.declared.fault.FormFault.TheVariants.{TooHeavy, TooManyForms, NotRestricted, NoMemory}
@@ -175,7 +174,9 @@ unmapped f (y ∷ xs) (b ∷ before) x after e =
     let tail : map f xs ≡ before ++ x ∷ after = cc in
     let rest = unmapped f xs before x after tail in
     record {
-      left = y ∷ rest.left; element = rest.element; right = rest.right;
+      left = y ∷ rest.left;
+      element = rest.element;
+      right = rest.right;
       xs_are = ap (λ r. y ∷ r) rest.xs_are;
       before_is = ap (λ r. b ∷ r) rest.before_is ∙ ap (λ h. h ∷ map f rest.left) head;
       x_is = rest.x_is;
@@ -186,7 +187,9 @@ heavy_unmapped : (n : List ℕ) (literals : List ClauseLit) (position : ℕ) →
 heavy_unmapped n literals position r =
     let split = unmapped (literal_renumbered n) literals r.before r.literal r.after r.literals_are in
     record {
-      before = split.left; literal = split.element; after = split.right;
+      before = split.left;
+      literal = split.element;
+      after = split.right;
       literals_are = split.xs_are;
       position_is = r.position_is ∙ ap (λ m. m + 1) (ap length split.before_is ∙ length-map split.left (literal_renumbered n));
       light = sym (all_mapped is_light (literal_renumbered n) (light_mapped n) split.left) ∙ ap (list_all is_light) (sym split.before_is) ∙ r.light;
@@ -196,29 +199,37 @@ heavy_unmapped n literals position r =
 reached_unmapped : (n : List ℕ) (clauses : List Clause) (index number : ℕ) (form : Form) → IsReached (renumbered n clauses) index number form → (old : Form) × (form ≡ form_renumbered n old) × IsReached clauses index number old
 reached_unmapped n clauses index number form r =
     let split = unmapped (clause_renumbered n) clauses r.before r.clause r.after r.clauses_are in
-    let inner = unmapped (form_renumbered n) (clause_forms index split.element) r.earlier form r.later (sym (clause_forms-mapped n index split.element) ∙ ap (clause_forms index) (sym split.x_is) ∙ r.forms_are) in
-    (inner.element, inner.x_is, record {
-      before = split.left; clause = split.element; after = split.right;
-      clauses_are = split.xs_are;
-      index_is = r.index_is ∙ ap length split.before_is ∙ length-map split.left (clause_renumbered n);
-      faultless = sym (faultless_mapped n split.left) ∙ ap is_faultless (sym split.before_is) ∙ r.faultless;
-      light = sym (light_clause_mapped n split.element) ∙ ap is_light_clause (sym split.x_is) ∙ r.light;
-      earlier = inner.left; later = inner.right;
-      forms_are = inner.xs_are;
-      number_is =
-      r.number_is
-      ∙ ap (λ m. m + length r.earlier + 1) (ap (λ cs. length (forms_of cs)) split.before_is ∙ ap length (forms_of-mapped n split.left) ∙ length-map (forms_of split.left) (form_renumbered n))
-      ∙ ap (λ m. length (forms_of split.left) + m + 1) (ap length inner.before_is ∙ length-map inner.left (form_renumbered n));
-      few = r.few;
-      restricted = sym (all_mapped is_restricted (form_renumbered n) (restricted_mapped n) inner.left) ∙ ap (list_all is_restricted) (sym inner.before_is) ∙ r.restricted;
-    })
+    let inner = unmapped (form_renumbered n) (clause_forms index split.element) r.earlier form r.later (sym (clause_forms-mapped n index split.element) ∙ ap (clause_forms index) (sym split.x_is) ∙ r.forms_are) in (
+      inner.element,
+      inner.x_is,
+      record {
+        before = split.left;
+        clause = split.element;
+        after = split.right;
+        clauses_are = split.xs_are;
+        index_is = r.index_is ∙ ap length split.before_is ∙ length-map split.left (clause_renumbered n);
+        faultless = sym (faultless_mapped n split.left) ∙ ap is_faultless (sym split.before_is) ∙ r.faultless;
+        light = sym (light_clause_mapped n split.element) ∙ ap is_light_clause (sym split.x_is) ∙ r.light;
+        earlier = inner.left;
+        later = inner.right;
+        forms_are = inner.xs_are;
+        number_is =
+            r.number_is
+            ∙ ap (λ m. m + length r.earlier + 1) (ap (λ cs. length (forms_of cs)) split.before_is ∙ ap length (forms_of-mapped n split.left) ∙ length-map (forms_of split.left) (form_renumbered n))
+            ∙ ap (λ m. length (forms_of split.left) + m + 1) (ap length inner.before_is ∙ length-map inner.left (form_renumbered n));
+        few = r.few;
+        restricted = sym (all_mapped is_restricted (form_renumbered n) (restricted_mapped n) inner.left) ∙ ap (list_all is_restricted) (sym inner.before_is) ∙ r.restricted;
+      },
+    )
 
 -- a fault of the clauses over the new numbers is one of the clauses
 pub stands_unmapped : (n : List ℕ) (clauses : List Clause) (fault : FormFault) → Stands (renumbered n clauses) fault → Stands clauses fault
 stands_unmapped n clauses (TooHeavy index position) r =
     let split = unmapped (clause_renumbered n) clauses r.before r.clause r.after r.clauses_are in
     record {
-      before = split.left; clause = split.element; after = split.right;
+      before = split.left;
+      clause = split.element;
+      after = split.right;
       clauses_are = split.xs_are;
       index_is = r.index_is ∙ ap length split.before_is ∙ length-map split.left (clause_renumbered n);
       faultless = sym (faultless_mapped n split.left) ∙ ap is_faultless (sym split.before_is) ∙ r.faultless;

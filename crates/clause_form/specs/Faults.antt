@@ -1,5 +1,5 @@
 -- When the clauses of an input give no problem: which fault stands first.
-use Rattle.std.specs.Prelude.{◌≡◌, ℕ, ◌+◌, ◌≤◌, Bool, true, false, ◌&&◌, nat_le, List, ◌∷◌, ◌++◌, length, IsTrue}
+use Rattle.std.specs.Prelude.{◌≡◌, ℕ, ◌+◌, ◌≤◌, Bool, true, false, ◌&&◌, nat_le, List, ◌∷◌, ◌++◌, length}
 use Rattle.std.specs.List.{list_all}
 use Rattle.mg_word.specs.Forms.{forms_of, clause_forms, is_restricted}
 use Rattle.mg_word.specs.declared.clause.ClauseLit.{ClauseLit}

@@ -1,5 +1,5 @@
 -- The variables of a form that are in a conclusion and in no premise.
-use Rattle.std.specs.Prelude.{◌≡◌, ℕ, ◌<◌, ◌≤◌, Bool, true, false, not, ◌&&◌, List, Option, Some, None, nat_lt, if◌then◌else◌, IsTrue}
+use Rattle.std.specs.Prelude.{◌≡◌, ℕ, ◌<◌, ◌≤◌, Bool, true, false, not, ◌&&◌, List, Option, Some, None, nat_lt, if◌then◌else◌}
 use Rattle.mg_word.specs.Forms.{is_among, lits_variables}
 use Rattle.mg_word.specs.declared.form.Form.{Form}
 

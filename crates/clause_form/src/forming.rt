@@ -100,7 +100,10 @@ fn push_forms(
 {
     let literals = clause.literals.as_slice();
     if let Some(literal) = heavy_position(literals) {
-        return Err(FormFault::TooHeavy { clause: index, literal });
+        return Err(FormFault::TooHeavy {
+            clause: index,
+            literal,
+        });
     }
     if has_true(literals) {
         return Ok(());

@@ -3,11 +3,14 @@
 
 mod fault;
 mod forming;
+mod line;
+mod names;
 mod problem;
 mod renumbering;
 mod sides;
 mod variables;
 
 pub use fault::FormFault;
+pub use line::form_text;
 pub use problem::forms_of;
 pub use variables::free_variable;

@@ -1,4 +1,3 @@
-use Rattle.std.proofs.Common.{sym}
 use Rattle.clause_form.proofs.Reaching.{stands_at, pushed_on}
 use Rattle.clause_form.proofs.forming.all_forms.Goals as goal
 

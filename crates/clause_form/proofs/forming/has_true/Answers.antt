@@ -1,4 +1,4 @@
-use Rattle.std.proofs.Common.{sym, ◌∙◌, ◌≡◌, ◌∷◌, [], false, take, get_or, ap, ◌||◌}
+use Rattle.std.proofs.Common.{sym, ◌∙◌, ◌∷◌, [], ap}
 use Rattle.mg_word.specs.Forms.{is_always_true}
 use Rattle.clause_form.proofs.SideLaws.{always_true_at, none_true_next}
 use Rattle.clause_form.proofs.forming.has_true.Goals as goal

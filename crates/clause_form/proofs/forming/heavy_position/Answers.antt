@@ -1,6 +1,5 @@
-use Rattle.std.proofs.Common.{◌≡◌, ◌+◌, length, take, drop, sym, ◌∙◌, ap, arith, false}
+use Rattle.std.proofs.Common.{◌+◌, take, drop, sym, ◌∙◌, arith}
 use Rattle.std.proofs.lemmas.List.{length-take}
-use Rattle.clause_form.specs.Faults.{is_light}
 use Rattle.clause_form.proofs.Splits.{split_at}
 use Rattle.clause_form.proofs.forming.heavy_position.Goals as goal
 

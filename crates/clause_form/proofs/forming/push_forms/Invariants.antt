@@ -9,5 +9,5 @@ abbrev pub invariant-loop-chosen : goal.invariant-loop-chosen
 invariant-loop-chosen l = record {
   added : l.others.items ≡ l.fn.others.items ++ first_forms l.index l.clause l.chosen-index;
   few : length l.others.items ≤ most_forms;
-  restricted : list_all is_restricted (first_forms l.index l.clause l.chosen-index) ≡ true
+  restricted : list_all is_restricted (first_forms l.index l.clause l.chosen-index) ≡ true;
 }

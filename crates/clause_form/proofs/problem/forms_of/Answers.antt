@@ -1,5 +1,5 @@
-use Rattle.std.proofs.Common.{◌≡◌, All, List, length, sym, subst, ◌∙◌, ap}
-use Rattle.mg_word.specs.Facts.{InputData, IsInput}
+use Rattle.std.proofs.Common.{◌≡◌, All, List, sym, subst, ◌∙◌, ap}
+use Rattle.mg_word.specs.Facts.{InputData}
 use Rattle.mg_word.specs.Forms.{forms_of}
 use Rattle.mg_word.specs.declared.clause.Clause.{Clause}
 use Rattle.clause_form.specs.Building.{HasFewParts}
