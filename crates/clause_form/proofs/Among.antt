@@ -32,10 +32,10 @@ any_flat_map : {X : Type 0} (f : X → List ℕ) (v : ℕ) (xs : List X) → is_
 any_flat_map f v [] = refl
 any_flat_map f v (x ∷ xs) = among-append (f x) (flat_map f xs) v ∙ ap (λ r. is_among (f x) v || r) (any_flat_map f v xs)
 
-below : (x y : ℕ) → nat_lt x y ≡ true → x < y
+pub below : (x y : ℕ) → nat_lt x y ≡ true → x < y
 below x y e = grind (arith, nat_tests)
 
-not_below : (x y : ℕ) → nat_lt x y ≡ false → y ≤ x
+pub not_below : (x y : ℕ) → nat_lt x y ≡ false → y ≤ x
 not_below x y e = grind (arith, nat_tests)
 
 same : (x y : ℕ) → nat_eq x y ≡ true → x ≡ y

@@ -8,3 +8,4 @@ pub mod Reaching
 pub mod Renumbered
 pub mod SideLaws
 pub mod Splits
+pub mod Uniqueness

@@ -3,6 +3,7 @@
 
 mod fault;
 mod forming;
+mod laws;
 mod line;
 mod names;
 mod problem;
@@ -11,6 +12,7 @@ mod sides;
 mod variables;
 
 pub use fault::FormFault;
+pub use laws::one_fault;
 pub use line::form_text;
 pub use problem::forms_of;
 pub use variables::free_variable;

@@ -61,7 +61,8 @@ fn push_further(
         ClauseLit::True | ClauseLit::False => Ok(()),
         ClauseLit::Lit(lit) => {
             if is_chosen(chosen, position) {
-                conclusions.push(lit.copy()?)?;
+                let copied = lit.copy()?;
+                conclusions.push(copied)?;
                 return Ok(());
             }
             premises.push(signed(lit, !lit.negative)?)?;
