@@ -33,48 +33,60 @@ all_unchosen : (p : PatLit → Bool) (b : Bool) (x : PatLit) (xs : List PatLit) 
 all_unchosen p true x xs here rest = rest
 all_unchosen p false x xs here rest = rw here rest
 
-premises_fit : (table : List Symbol) (v : ℕ) (ls : List ClauseLit) → list_all (literal_fits table v) ls ≡ true → list_all (lit_fits table v) (premises_of ls) ≡ true
-premises_fit table v [] e = refl
-premises_fit table v (True ∷ ls) e = premises_fit table v ls e
-premises_fit table v (False ∷ ls) e = premises_fit table v ls e
-premises_fit table v (Literal lit ∷ ls) e =
-    let both = both_true (lit_fits table v lit) (list_all (literal_fits table v) ls) e in
-    all_chosen (lit_fits table v) lit.negative (opposite lit) (premises_of ls) both.0 (premises_fit table v ls both.1)
+premises_hold : (q : ClauseLit → Bool) (p : PatLit → Bool) → ((lit : PatLit) → q (Literal lit) ≡ true → (p lit ≡ true) × (p (opposite lit) ≡ true)) → (ls : List ClauseLit) → list_all q ls ≡ true → list_all p (premises_of ls) ≡ true
+premises_hold q p on [] e = refl
+premises_hold q p on (True ∷ ls) e = premises_hold q p on ls (both_true (q True) (list_all q ls) e).1
+premises_hold q p on (False ∷ ls) e = premises_hold q p on ls (both_true (q False) (list_all q ls) e).1
+premises_hold q p on (Literal lit ∷ ls) e =
+    let both = both_true (q (Literal lit)) (list_all q ls) e in
+    all_chosen p lit.negative (opposite lit) (premises_of ls) (on lit both.0).1 (premises_hold q p on ls both.1)
 
-conclusions_fit : (table : List Symbol) (v : ℕ) (ls : List ClauseLit) → list_all (literal_fits table v) ls ≡ true → list_all (lit_fits table v) (conclusions_of ls) ≡ true
-conclusions_fit table v [] e = refl
-conclusions_fit table v (True ∷ ls) e = conclusions_fit table v ls e
-conclusions_fit table v (False ∷ ls) e = conclusions_fit table v ls e
-conclusions_fit table v (Literal lit ∷ ls) e =
-    let both = both_true (lit_fits table v lit) (list_all (literal_fits table v) ls) e in
-    all_unchosen (lit_fits table v) lit.negative lit (conclusions_of ls) both.0 (conclusions_fit table v ls both.1)
+conclusions_hold : (q : ClauseLit → Bool) (p : PatLit → Bool) → ((lit : PatLit) → q (Literal lit) ≡ true → (p lit ≡ true) × (p (opposite lit) ≡ true)) → (ls : List ClauseLit) → list_all q ls ≡ true → list_all p (conclusions_of ls) ≡ true
+conclusions_hold q p on [] e = refl
+conclusions_hold q p on (True ∷ ls) e = conclusions_hold q p on ls (both_true (q True) (list_all q ls) e).1
+conclusions_hold q p on (False ∷ ls) e = conclusions_hold q p on ls (both_true (q False) (list_all q ls) e).1
+conclusions_hold q p on (Literal lit ∷ ls) e =
+    let both = both_true (q (Literal lit)) (list_all q ls) e in
+    all_unchosen p lit.negative lit (conclusions_of ls) (on lit both.0).0 (conclusions_hold q p on ls both.1)
 
-others_fit : (table : List Symbol) (v at : ℕ) (chosen : List ℕ) (ls : List ClauseLit) → list_all (literal_fits table v) ls ≡ true → list_all (lit_fits table v) (others_from at chosen ls) ≡ true
-others_fit table v at chosen [] e = refl
-others_fit table v at chosen (True ∷ ls) e = others_fit table v (at + 1) chosen ls e
-others_fit table v at chosen (False ∷ ls) e = others_fit table v (at + 1) chosen ls e
-others_fit table v at chosen (Literal lit ∷ ls) e =
-    let both = both_true (lit_fits table v lit) (list_all (literal_fits table v) ls) e in
-    all_unchosen (lit_fits table v) (is_among chosen at) (opposite lit) (others_from (at + 1) chosen ls) both.0 (others_fit table v (at + 1) chosen ls both.1)
+others_hold : (q : ClauseLit → Bool) (p : PatLit → Bool) → ((lit : PatLit) → q (Literal lit) ≡ true → (p lit ≡ true) × (p (opposite lit) ≡ true)) → (at : ℕ) (chosen : List ℕ) (ls : List ClauseLit) → list_all q ls ≡ true → list_all p (others_from at chosen ls) ≡ true
+others_hold q p on at chosen [] e = refl
+others_hold q p on at chosen (True ∷ ls) e = others_hold q p on (at + 1) chosen ls (both_true (q True) (list_all q ls) e).1
+others_hold q p on at chosen (False ∷ ls) e = others_hold q p on (at + 1) chosen ls (both_true (q False) (list_all q ls) e).1
+others_hold q p on at chosen (Literal lit ∷ ls) e =
+    let both = both_true (q (Literal lit)) (list_all q ls) e in
+    all_unchosen p (is_among chosen at) (opposite lit) (others_from (at + 1) chosen ls) (on lit both.0).1 (others_hold q p on (at + 1) chosen ls both.1)
 
-chosen_fit : (table : List Symbol) (v at : ℕ) (chosen : List ℕ) (ls : List ClauseLit) → list_all (literal_fits table v) ls ≡ true → list_all (lit_fits table v) (chosen_from at chosen ls) ≡ true
-chosen_fit table v at chosen [] e = refl
-chosen_fit table v at chosen (True ∷ ls) e = chosen_fit table v (at + 1) chosen ls e
-chosen_fit table v at chosen (False ∷ ls) e = chosen_fit table v (at + 1) chosen ls e
-chosen_fit table v at chosen (Literal lit ∷ ls) e =
-    let both = both_true (lit_fits table v lit) (list_all (literal_fits table v) ls) e in
-    all_chosen (lit_fits table v) (is_among chosen at) lit (chosen_from (at + 1) chosen ls) both.0 (chosen_fit table v (at + 1) chosen ls both.1)
+chosen_hold : (q : ClauseLit → Bool) (p : PatLit → Bool) → ((lit : PatLit) → q (Literal lit) ≡ true → (p lit ≡ true) × (p (opposite lit) ≡ true)) → (at : ℕ) (chosen : List ℕ) (ls : List ClauseLit) → list_all q ls ≡ true → list_all p (chosen_from at chosen ls) ≡ true
+chosen_hold q p on at chosen [] e = refl
+chosen_hold q p on at chosen (True ∷ ls) e = chosen_hold q p on (at + 1) chosen ls (both_true (q True) (list_all q ls) e).1
+chosen_hold q p on at chosen (False ∷ ls) e = chosen_hold q p on (at + 1) chosen ls (both_true (q False) (list_all q ls) e).1
+chosen_hold q p on at chosen (Literal lit ∷ ls) e =
+    let both = both_true (q (Literal lit)) (list_all q ls) e in
+    all_chosen p (is_among chosen at) lit (chosen_from (at + 1) chosen ls) (on lit both.0).0 (chosen_hold q p on (at + 1) chosen ls both.1)
+
+-- what holds of the literals of clauses holds of those of their forms
+pub sides_hold : (q : ClauseLit → Bool) (p : PatLit → Bool) → ((lit : PatLit) → q (Literal lit) ≡ true → (p lit ≡ true) × (p (opposite lit) ≡ true)) → (P : Form → Type 0) → (index : ℕ) (clause : Clause)
+    → ((form : Form) → form.clause ≡ index → form.variables ≡ length clause.variables → list_all p form.premises ≡ true → list_all p form.conclusions ≡ true → P form)
+    → (test : Bool) → list_all q clause.literals ≡ true → All P (if test then [] else plain_form index clause ∷ map (further_form index clause) clause.conclude)
+sides_hold q p on P index clause make true e = All-nil P
+sides_hold q p on P index clause make false e =
+    All-cons P (plain_form index clause) (map (further_form index clause) clause.conclude)
+    (make (plain_form index clause) refl refl (premises_hold q p on clause.literals e) (conclusions_hold q p on clause.literals e))
+    (All-map P (further_form index clause) clause.conclude
+    (λ k d within. let chosen = get_or clause.conclude k d in
+    make (further_form index clause chosen) refl refl (others_hold q p on 1 chosen clause.literals e) (chosen_hold q p on 1 chosen clause.literals e)))
 
 -- the forms of one clause
 right_forms : (table : List Symbol) (count index : ℕ) (clause : Clause) (test : Bool) → index < count → list_all (literal_fits table (length clause.variables)) clause.literals ≡ true
     → All (IsRight table count) (if test then [] else plain_form index clause ∷ map (further_form index clause) clause.conclude)
-right_forms table count index clause true h e = All-nil (IsRight table count)
-right_forms table count index clause false h e =
-    All-cons (IsRight table count) (plain_form index clause) (map (further_form index clause) clause.conclude)
-    (record { known = h; premises = premises_fit table (length clause.variables) clause.literals e; conclusions = conclusions_fit table (length clause.variables) clause.literals e })
-    (All-map (IsRight table count) (further_form index clause) clause.conclude
-    (λ k d within. let chosen = get_or clause.conclude k d in
-    record { known = h; premises = others_fit table (length clause.variables) 1 chosen clause.literals e; conclusions = chosen_fit table (length clause.variables) 1 chosen clause.literals e }))
+right_forms table count index clause test h e =
+    sides_hold (literal_fits table (length clause.variables)) (lit_fits table (length clause.variables)) (λ lit k. (k, k)) (IsRight table count) index clause
+    (λ form at variables premises conclusions. record {
+      known = subst (λ n. n < count) (sym at) h;
+      premises = ap (λ v. list_all (lit_fits table v) form.premises) variables ∙ premises;
+      conclusions = ap (λ v. list_all (lit_fits table v) form.conclusions) variables ∙ conclusions;
+    }) test e
 
 -- the forms of clauses that are counted from that index
 all_right : (table : List Symbol) (files count at : ℕ) (clauses : List Clause) → at + length clauses ≤ count → All (IsClause table files) clauses → All (IsRight table count) (forms_from at clauses)

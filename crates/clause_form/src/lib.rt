@@ -16,3 +16,6 @@ pub use laws::one_fault;
 pub use line::form_text;
 pub use problem::forms_of;
 pub use variables::free_variable;
+
+#[cfg(test)]
+mod tests;
