@@ -2,3 +2,10 @@ pub mod Entries
 pub mod Spellings
 pub mod Different
 pub mod Sorting
+pub mod RisingLists
+pub mod SortedLits
+pub mod Merging
+pub mod SameTables
+pub mod SpelledNames
+pub mod SpelledTerms
+pub mod SpelledWords

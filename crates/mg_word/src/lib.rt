@@ -2,6 +2,7 @@
 #![tactic(auto)]
 
 mod clause;
+mod crossing;
 mod form;
 mod input;
 mod instances;
@@ -10,9 +11,12 @@ mod items;
 mod lit;
 mod lit_set;
 mod memory;
+mod orders;
 mod pattern;
 mod problem;
+mod same;
 mod spelling;
+mod spelling_laws;
 mod subst;
 mod symbol;
 mod text;
@@ -27,9 +31,13 @@ pub use items::Items;
 pub use lit::{Lit, PatLit, complement, is_complement};
 pub use lit_set::LitSet;
 pub use memory::NoMemory;
+pub use orders::{lit_cmp, lits_cmp, weight, word_cmp};
 pub use pattern::Pattern;
 pub use problem::Problem;
 pub use spelling::{lit_text, push_lit, push_pattern_lit, push_word, word_text};
+pub use spelling_laws::{
+    lits_are_spelled_apart, symbols_are_spelled_apart, words_are_spelled_apart,
+};
 pub use subst::Subst;
 pub use symbol::{Kind, Symbols};
 pub use text::Text;

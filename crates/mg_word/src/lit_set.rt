@@ -1,7 +1,7 @@
 //! Sets of literals, kept in order.
 
-ghost use Rattle.std.specs.Prelude.{◌≡◌, [], IfOk, IsTrue};
-ghost use Rattle.mg_word.specs.Sets.{is_rising};
+ghost use Rattle.std.specs.Prelude.{◌≡◌, [], IfOk, IsOkAnd, IsTrue};
+ghost use Rattle.mg_word.specs.Sets.{is_rising, holds, is_part, set_of, with_lit};
 
 use crate::{Lit, NoMemory};
 use std::alloc::Global;
@@ -52,5 +52,57 @@ impl LitSet {
             lits.push(lit.copy()?)?;
         }
         Ok(LitSet { lits })
+    }
+
+    /// The set of the literals of a list.
+    pub fn from_lits(lits: Vec<Lit>) -> Result<LitSet, NoMemory>
+        ensures { IsOkAnd result (λ set. set ≡ set_of lits.items) }
+    {
+        let mut lits = lits;
+        lits.sort_unstable();
+        lits.dedup();
+        Ok(LitSet { lits })
+    }
+
+    /// Whether the literal is in the set.
+    pub fn contains(&self, lit: &Lit) -> bool
+        ensures { result ≡ holds self.now lit.now }
+    {
+        self.lits.as_slice().binary_search(lit).is_ok()
+    }
+
+    /// Whether each literal of this set is in the other.
+    pub fn is_subset(&self, other: &LitSet) -> bool
+        ensures { result ≡ is_part self.now other.now }
+    {
+        let part = self.lits.as_slice();
+        let mut done: usize = 0;
+        for held in &other.lits {
+            if done == part.len() {
+                return true;
+            }
+            let order = part[done].cmp(held);
+            if order.is_lt() {
+                return false;
+            }
+            if order.is_eq() {
+                done += 1;
+            }
+        }
+        done == part.len()
+    }
+
+    /// The set with one literal more.
+    pub fn with(self, lit: Lit) -> Result<LitSet, NoMemory>
+        ensures { IfOk result (λ set. set ≡ with_lit self lit) }
+    {
+        match self.lits.as_slice().binary_search(&lit) {
+            Ok(_) => Ok(self),
+            Err(at) => {
+                let mut lits = self.lits;
+                lits.insert(at, lit)?;
+                Ok(LitSet { lits })
+            }
+        }
     }
 }

@@ -141,6 +141,23 @@ impl Symbols {
         Ok((sorted, numbers))
     }
 
+    /// Whether the two tables hold the same symbols under the same numbers.
+    pub fn same(&self, other: &Symbols) -> bool
+        ensures { IsTrue result ↔ (self.now ≡ other.now) }
+    {
+        let these = self.entries.as_slice();
+        let those = other.entries.as_slice();
+        if these.len() != those.len() {
+            return false;
+        }
+        for (i, entry) in these.iter().enumerate() {
+            if *entry != those[i] {
+                return false;
+            }
+        }
+        true
+    }
+
     // Copies of the entries, in order.
     fn sorted_entries(&self) -> Result<Vec<Entry>, NoMemory>
         ensures ordered { IfOk result (λ entries. IsSorted symbol_cmp (map entry_seen entries.items)) }
