@@ -1,8 +1,9 @@
 -- What contracts see of an input and of a problem, and the facts that their types keep.
-use Rattle.std.specs.Prelude.{◌≡◌, ℕ, ◌<◌, ◌≤◌, Bool, true, false, ◌&&◌, nat_eq, nat_lt, nat_le, List, [], ◌∷◌, length, All, IsTrue}
+use Rattle.std.specs.Prelude.{◌≡◌, ℕ, ◌<◌, ◌≤◌, Bool, true, false, ◌&&◌, nat_eq, nat_lt, nat_le, List, [], ◌∷◌, length, All, IsTrue, IsSorted}
 use Rattle.std.specs.List.{list_all, flat_map}
 use Rattle.std.specs.Option.{option_map_or}
 use Rattle.mg_word.specs.Table.{Symbol}
+use Rattle.mg_word.specs.SymbolOrder.{symbol_cmp}
 use Rattle.mg_word.specs.Words.{pattern_fits, numbered}
 use Rattle.mg_word.specs.Forms.{forms_of, is_among, is_restricted, pattern_variables}
 use Rattle.mg_word.specs.declared.symbol.Kind.{Kind}
@@ -11,6 +12,7 @@ use Rattle.mg_word.specs.declared.clause.ClauseLit.{ClauseLit}
 use Rattle.mg_word.specs.declared.clause.ClauseLit.TheVariants.{True, False, Lit as Literal}
 use Rattle.mg_word.specs.declared.clause.Clause.{Clause}
 use Rattle.mg_word.specs.declared.form.Form.{Form}
+use Rattle.mg_word.specs.declared.lit.PatLit.{PatLit}
 
 -- an input: its symbols, the names of the files read, and its clauses
 pub record InputData : Type 0 where
@@ -93,6 +95,21 @@ pub record IsInput (table : List Symbol) (files : List (List ℕ)) (clauses : Li
   pub each : All (IsClause table (length files)) clauses
   pub few : length clauses ≤ most_parts
 
+-- the most symbols and variables of a literal, counted together, and the most forms
+abbrev pub most_items : ℕ
+most_items = 4096
+
+abbrev pub most_forms : ℕ
+most_forms = 100000
+
+-- the literal has few enough symbols and variables
+abbrev pub is_light_lit : PatLit → Bool
+is_light_lit lit = nat_le (length lit.pattern) most_items
+
+-- each literal of the form has
+abbrev pub is_light_form : Form → Bool
+is_light_form form = list_all is_light_lit form.premises && list_all is_light_lit form.conclusions
+
 -- what holds of each problem
 pub record IsProblem (problem : ProblemData) : Type 0 where
   pub input : IsInput problem.symbols problem.files problem.clauses
@@ -100,3 +117,8 @@ pub record IsProblem (problem : ProblemData) : Type 0 where
   pub formed : problem.forms ≡ forms_of problem.clauses
   -- each of its forms is range restricted
   pub restricted : IsTrue (list_all is_restricted problem.forms)
+  -- its symbols stand in symbol order
+  pub ordered : IsSorted symbol_cmp problem.symbols
+  -- no literal of a form is too heavy
+  pub light : IsTrue (list_all is_light_form problem.forms)
+  pub few_forms : length problem.forms ≤ most_forms

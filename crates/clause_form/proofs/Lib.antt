@@ -1,0 +1,11 @@
+pub mod Among
+pub mod Excluding
+pub mod FormFacts
+pub mod FormLists
+pub mod Formed
+pub mod InputFacts
+pub mod Reaching
+pub mod Renumbered
+pub mod SideLaws
+pub mod Splits
+pub mod Uniqueness

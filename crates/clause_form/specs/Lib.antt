@@ -1,0 +1,7 @@
+pub mod Building
+pub mod Faults
+pub mod Forming
+pub mod Free
+pub mod Lines
+pub mod Renumbering
+pub mod Samples

@@ -1,0 +1,21 @@
+//! The arrow forms of clauses, after MGTP and CMGTP, and the problem that they make.
+#![tactic(auto)]
+
+mod fault;
+mod forming;
+mod laws;
+mod line;
+mod names;
+mod problem;
+mod renumbering;
+mod sides;
+mod variables;
+
+pub use fault::FormFault;
+pub use laws::one_fault;
+pub use line::form_text;
+pub use problem::forms_of;
+pub use variables::free_variable;
+
+#[cfg(test)]
+mod tests;
