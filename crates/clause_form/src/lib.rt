@@ -5,7 +5,6 @@ mod fault;
 mod forming;
 mod laws;
 mod line;
-mod names;
 mod problem;
 mod renumbering;
 mod sides;

@@ -4,8 +4,7 @@ ghost use Rattle.std.specs.Prelude.{◌≡◌, ◌≤◌, ◌<◌, ◌++◌, ◌
 ghost use Rattle.mg_word.specs.Spelling.{spelled_pattern_lit, spelled_name};
 ghost use Rattle.clause_form.specs.Lines.{IsSpelled, joined, premises_part, conclusions_part, line_head, line_of};
 
-use crate::names::push_name;
-use mg_word::{Name, NoMemory, PatLit, Problem, Symbols, Text, push_pattern_lit};
+use mg_word::{Name, NoMemory, PatLit, Problem, Symbols, Text, push_name, push_pattern_lit};
 use std::alloc::Global;
 
 // Appends the literals with that separator between them.

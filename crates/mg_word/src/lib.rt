@@ -34,7 +34,7 @@ pub use memory::NoMemory;
 pub use orders::{lit_cmp, lits_cmp, weight, word_cmp};
 pub use pattern::Pattern;
 pub use problem::Problem;
-pub use spelling::{lit_text, push_lit, push_pattern_lit, push_word, word_text};
+pub use spelling::{lit_text, push_lit, push_name, push_pattern_lit, push_word, word_text};
 pub use spelling_laws::{
     lits_are_spelled_apart, symbols_are_spelled_apart, words_are_spelled_apart,
 };

@@ -67,8 +67,8 @@ fn push_quoted(into: &mut Vec<u8>, quote: u8, name: &[u8]) -> Result<(), NoMemor
     Ok(())
 }
 
-// Appends the name as its kind is written.
-fn push_name(into: &mut Vec<u8>, kind: Kind, name: &[u8]) -> Result<(), NoMemory>
+/// Appends a name as its kind is written.
+pub fn push_name(into: &mut Vec<u8>, kind: Kind, name: &[u8]) -> Result<(), NoMemory>
     ensures { OnOk result (into.new.items ≡ into.old.items ++ spelling.spelled_name kind name.now) }
 {
     match kind {
