@@ -11,7 +11,8 @@ use Rattle.mg_word.specs.declared.clause.ClauseLit.TheVariants.{True, False, Lit
 use Rattle.mg_word.specs.declared.clause.Clause.{Clause}
 use Rattle.mg_word.specs.declared.form.Form.{Form}
 use Rattle.clause_form.specs.Free.{is_free, IsLeastFree}
-use Rattle.clause_form.specs.Faults.{most_forms, is_light, is_light_clause, is_faultless, IsFirstHeavy, IsReached, Stands}
+use Rattle.mg_word.specs.Facts.{most_forms}
+use Rattle.clause_form.specs.Faults.{is_light, is_light_clause, is_faultless, IsFirstHeavy, IsReached, Stands}
 use Rattle.clause_form.specs.Renumbering.{item_renumbered, pattern_renumbered, lit_renumbered, literal_renumbered, clause_renumbered, renumbered}
 use Rattle.clause_form.specs.declared.fault.FormFault.{FormFault}
 use Rattle.clause_form.specs.declared.fault.FormFault.TheVariants.{TooHeavy, TooManyForms, NotRestricted, NoMemory}
