@@ -166,6 +166,9 @@ record Unmapped {A B : Type 0} (f : A → B) (xs : List A) (before : List B) (x 
   x_is : x ≡ f element
   after_is : after ≡ map f right
 
+consed : {A : Type 0} (x y : A) (xs ys : List A) → x ≡ y → xs ≡ ys → x ∷ xs ≡ y ∷ ys
+consed x y xs ys e f = cc
+
 unmapped : {A B : Type 0} (f : A → B) (xs : List A) (before : List B) (x : B) (after : List B) → map f xs ≡ before ++ x ∷ after → Unmapped f xs before x after
 unmapped f [] [] x after e = cc
 unmapped f [] (b ∷ before) x after e = cc
@@ -179,7 +182,7 @@ unmapped f (y ∷ xs) (b ∷ before) x after e =
       element = rest.element;
       right = rest.right;
       xs_are = ap (λ r. y ∷ r) rest.xs_are;
-      before_is = ap (λ r. b ∷ r) rest.before_is ∙ ap (λ h. h ∷ map f rest.left) head;
+      before_is = consed b (f y) before (map f rest.left) head rest.before_is;
       x_is = rest.x_is;
       after_is = rest.after_is;
     }
