@@ -8,7 +8,8 @@ use Rattle.mg_word.specs.Forms.{clause_forms, forms_from, forms_of, is_restricte
 use Rattle.mg_word.specs.declared.clause.ClauseLit.{ClauseLit}
 use Rattle.mg_word.specs.declared.clause.Clause.{Clause}
 use Rattle.mg_word.specs.declared.form.Form.{Form}
-use Rattle.clause_form.specs.Faults.{most_forms, is_light, is_light_clause, is_faultless, IsFirstHeavy, IsReached, Stands}
+use Rattle.mg_word.specs.Facts.{most_forms}
+use Rattle.clause_form.specs.Faults.{is_light, is_light_clause, is_faultless, IsFirstHeavy, IsReached, Stands}
 use Rattle.clause_form.specs.declared.fault.FormFault.{FormFault}
 use Rattle.clause_form.specs.declared.fault.FormFault.TheVariants.{TooHeavy, TooManyForms, NotRestricted, NoMemory}
 use Rattle.clause_form.proofs.Among.{both_true, not_restricted}
@@ -29,7 +30,7 @@ forms_around clauses before clause after index earlier form later are at forms_a
     ∙ ap (λ r. forms_of before ++ r) (append_assoc earlier (form ∷ later) (forms_from (index + 1) after))
     ∙ sym (append_assoc (forms_of before) earlier (form ∷ (later ++ forms_from (index + 1) after)))
 
-few_of : (n : ℕ) → nat_le n most_forms ≡ true → n ≤ most_forms
+pub few_of : (n : ℕ) → nat_le n most_forms ≡ true → n ≤ most_forms
 few_of n e = grind (arith, nat_tests)
 
 pub heavy_excluded : (literals : List ClauseLit) (position : ℕ) → IsFirstHeavy literals position → list_all is_light literals ≡ true → ⊥

@@ -6,7 +6,10 @@ use Rattle.std.specs.List.{list_all}
 use Rattle.mg_word.specs.Table.{Symbol}
 use Rattle.mg_word.specs.Words.{pattern_fits, numbered}
 use Rattle.mg_word.specs.Forms.{premises_of, conclusions_of, others_from, chosen_from, is_always_true, is_among, opposite, plain_form, further_form, clause_forms, forms_from, forms_of}
-use Rattle.mg_word.specs.Facts.{IsClause, literal_fits}
+use Rattle.mg_word.specs.Facts.{IsClause, literal_fits, is_light_lit, is_light_form}
+use Rattle.clause_form.specs.Faults.{is_light, is_light_clause}
+use Rattle.clause_form.proofs.InputFacts.{list_all-from_All}
+use Rattle.std.proofs.lemmas.List.Folds.{list_all-append}
 use Rattle.mg_word.specs.declared.lit.PatLit.{PatLit}
 use Rattle.mg_word.specs.declared.clause.ClauseLit.{ClauseLit}
 use Rattle.mg_word.specs.declared.clause.ClauseLit.TheVariants.{True, False, Lit as Literal}
@@ -99,6 +102,21 @@ all_right table files count at (clause ∷ clauses) h all =
 
 pub forms_right : (table : List Symbol) (files : ℕ) (clauses : List Clause) → All (IsClause table files) clauses → All (IsRight table (length clauses)) (forms_of clauses)
 forms_right table files clauses all = all_right table files (length clauses) 0 clauses (omega arith) all
+
+-- the forms of light clauses have light literals
+light_clause_forms : (index : ℕ) (clause : Clause) → is_light_clause clause ≡ true → list_all is_light_form (clause_forms index clause) ≡ true
+light_clause_forms index clause e =
+    list_all-from_All is_light_form (clause_forms index clause)
+    (sides_hold is_light is_light_lit (λ lit k. (k, k)) (λ form. is_light_form form ≡ true) index clause (λ form at variables premises conclusions. rw premises conclusions) (is_always_true clause.literals) e)
+
+light_from : (at : ℕ) (clauses : List Clause) → list_all is_light_clause clauses ≡ true → list_all is_light_form (forms_from at clauses) ≡ true
+light_from at [] e = refl
+light_from at (clause ∷ clauses) e =
+    let both = both_true (is_light_clause clause) (list_all is_light_clause clauses) e in
+    list_all-append is_light_form (clause_forms at clause) (forms_from (at + 1) clauses) ∙ rw (light_clause_forms at clause both.0) (light_from (at + 1) clauses both.1)
+
+pub light_forms : (clauses : List Clause) → list_all is_light_clause clauses ≡ true → list_all is_light_form (forms_of clauses) ≡ true
+light_forms clauses e = light_from 0 clauses e
 
 -- literals that fit have spellings
 pub all_spelled : (table : List Symbol) (v : ℕ) (lits : List PatLit) → list_all (lit_fits table v) lits ≡ true → All (IsSpelled table) lits

@@ -1,22 +1,23 @@
 -- The problem that is formed: its facts, and that it is the input's.
-use Rattle.std.proofs.Common.{◌≡◌, ◌≢◌, ℕ, true, List, length, sym, ◌∙◌, ap, subst, arith, All, ◌&&◌, nat_le}
+use Rattle.std.proofs.Common.{◌≡◌, ◌≢◌, ◌≤◌, ℕ, true, List, length, sym, ◌∙◌, ap, subst, arith, All, ◌&&◌, nat_le}
 use Rattle.std.proofs.lemmas.List.{length-map}
 use Rattle.std.proofs.lemmas.List.Elements.{All-map, All-weaker}
 use Rattle.std.specs.List.{list_all}
 use Rattle.mg_word.specs.Table.{Symbol}
 use Rattle.mg_word.specs.Forms.{forms_of, is_restricted}
-use Rattle.mg_word.specs.Facts.{InputData, ProblemData, IsClause, IsInput, IsProblem}
+use Rattle.mg_word.specs.Facts.{InputData, ProblemData, IsClause, IsInput, IsProblem, is_light_form, most_forms}
 use Rattle.mg_word.specs.SymbolOrder.{IsSortedTable}
 use Rattle.mg_word.specs.declared.clause.Clause.{Clause}
 use Rattle.mg_word.specs.declared.form.Form.{Form}
 use Rattle.clause_form.specs.Building.{HasFewParts}
-use Rattle.clause_form.specs.Faults.{most_forms, is_light_clause, is_faultless, Stands}
+use Rattle.clause_form.specs.Faults.{is_light_clause, is_faultless, Stands}
 use Rattle.clause_form.specs.Forming.{IsFormed}
 use Rattle.clause_form.specs.Renumbering.{clause_renumbered, renumbered}
 use Rattle.clause_form.specs.declared.fault.FormFault.{FormFault}
 use Rattle.clause_form.specs.declared.fault.FormFault.TheVariants.{NoMemory}
 use Rattle.clause_form.proofs.Among.{both_true}
-use Rattle.clause_form.proofs.Excluding.{fault_excluded}
+use Rattle.clause_form.proofs.Excluding.{fault_excluded, few_of}
+use Rattle.clause_form.proofs.FormFacts.{light_forms}
 use Rattle.clause_form.proofs.InputFacts.{clause_kept, symbols_kept}
 use Rattle.clause_form.proofs.Renumbered.{faultless_mapped, stands_unmapped}
 
@@ -56,6 +57,9 @@ made_problem before files clauses after n files' clauses' forms' facts made =
       input = subst (λ (cs : List Clause). IsInput after files' cs) (sym made.clauses_are) kept_files;
       formed = made.forms_are;
       restricted = ap (list_all is_restricted) made.forms_are ∙ inner.1;
+      ordered = made.sorted.ordered;
+      light = ap (list_all is_light_form) made.forms_are ∙ light_forms clauses' parts.0;
+      few_forms = subst (λ (forms : List Form). length forms ≤ most_forms) (sym made.forms_are) (few_of (length (forms_of clauses')) inner.0);
     }
 
 pub made_formed : (before : List Symbol) (files : List (List ℕ)) (clauses : List Clause) (after : List Symbol) (n : List ℕ) (files' : List (List ℕ)) (clauses' : List Clause) (forms' : List Form) → IsMade before files clauses after n files' clauses' forms'

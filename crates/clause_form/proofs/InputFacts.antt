@@ -96,7 +96,7 @@ All-from_list_all p [] e = All-nil (λ x. p x ≡ true)
 All-from_list_all p (x ∷ xs) e =
     let both = both_true (p x) (list_all p xs) e in All-cons (λ x. p x ≡ true) x xs both.0 (All-from_list_all p xs both.1)
 
-list_all-from_All : {X : Type 0} (p : X → Bool) (xs : List X) → All (λ x. p x ≡ true) xs → list_all p xs ≡ true
+pub list_all-from_All : {X : Type 0} (p : X → Bool) (xs : List X) → All (λ x. p x ≡ true) xs → list_all p xs ≡ true
 list_all-from_All p [] all = refl
 list_all-from_All p (x ∷ xs) all = rw (All-head (λ x. p x ≡ true) x xs all) (list_all-from_All p xs (All-tail (λ x. p x ≡ true) x xs all))
 

@@ -9,7 +9,8 @@ use Rattle.std.specs.List.{list_all}
 use Rattle.mg_word.specs.Forms.{plain_form, further_form, clause_forms, forms_from, forms_of, is_always_true, is_restricted}
 use Rattle.mg_word.specs.declared.clause.Clause.{Clause}
 use Rattle.mg_word.specs.declared.form.Form.{Form}
-use Rattle.clause_form.specs.Faults.{most_forms, is_light_clause, is_faultless, IsReached, Stands}
+use Rattle.mg_word.specs.Facts.{most_forms}
+use Rattle.clause_form.specs.Faults.{is_light_clause, is_faultless, IsReached, Stands}
 use Rattle.clause_form.specs.Building.{RefusesClause, IsPushed}
 use Rattle.clause_form.specs.declared.fault.FormFault.{FormFault}
 use Rattle.clause_form.specs.declared.fault.FormFault.TheVariants.{TooHeavy, TooManyForms, NotRestricted, NoMemory}

@@ -11,7 +11,8 @@ use Rattle.mg_word.specs.declared.clause.ClauseLit.TheVariants.{True, False, Lit
 use Rattle.mg_word.specs.declared.clause.Clause.{Clause}
 use Rattle.mg_word.specs.declared.form.Form.{Form}
 use Rattle.clause_form.specs.Free.{is_free, IsLeastFree}
-use Rattle.clause_form.specs.Faults.{most_forms, is_light, is_light_clause, is_faultless, IsFirstHeavy, IsReached, Stands}
+use Rattle.mg_word.specs.Facts.{most_forms}
+use Rattle.clause_form.specs.Faults.{is_light, is_light_clause, is_faultless, IsFirstHeavy, IsReached, Stands}
 use Rattle.clause_form.specs.Renumbering.{item_renumbered, pattern_renumbered, lit_renumbered, literal_renumbered, clause_renumbered, renumbered}
 use Rattle.clause_form.specs.declared.fault.FormFault.{FormFault}
 use Rattle.clause_form.specs.declared.fault.FormFault.TheVariants.{TooHeavy, TooManyForms, NotRestricted, NoMemory}
@@ -165,6 +166,9 @@ record Unmapped {A B : Type 0} (f : A → B) (xs : List A) (before : List B) (x 
   x_is : x ≡ f element
   after_is : after ≡ map f right
 
+consed : {A : Type 0} (x y : A) (xs ys : List A) → x ≡ y → xs ≡ ys → x ∷ xs ≡ y ∷ ys
+consed x y xs ys e f = cc
+
 unmapped : {A B : Type 0} (f : A → B) (xs : List A) (before : List B) (x : B) (after : List B) → map f xs ≡ before ++ x ∷ after → Unmapped f xs before x after
 unmapped f [] [] x after e = cc
 unmapped f [] (b ∷ before) x after e = cc
@@ -178,7 +182,7 @@ unmapped f (y ∷ xs) (b ∷ before) x after e =
       element = rest.element;
       right = rest.right;
       xs_are = ap (λ r. y ∷ r) rest.xs_are;
-      before_is = ap (λ r. b ∷ r) rest.before_is ∙ ap (λ h. h ∷ map f rest.left) head;
+      before_is = consed b (f y) before (map f rest.left) head rest.before_is;
       x_is = rest.x_is;
       after_is = rest.after_is;
     }

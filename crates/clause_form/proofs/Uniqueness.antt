@@ -7,7 +7,8 @@ use Rattle.mg_word.specs.declared.clause.ClauseLit.{ClauseLit}
 use Rattle.mg_word.specs.declared.clause.Clause.{Clause}
 use Rattle.mg_word.specs.declared.form.Form.{Form}
 use Rattle.clause_form.specs.Free.{IsLeastFree}
-use Rattle.clause_form.specs.Faults.{most_forms, is_light, is_faultless, IsFirstHeavy, IsReached, Stands}
+use Rattle.mg_word.specs.Facts.{most_forms}
+use Rattle.clause_form.specs.Faults.{is_light, is_faultless, IsFirstHeavy, IsReached, Stands}
 use Rattle.clause_form.specs.Building.{RefusesForm, RefusesClause}
 use Rattle.clause_form.specs.declared.fault.FormFault.{FormFault}
 use Rattle.clause_form.specs.declared.fault.FormFault.TheVariants.{TooHeavy, TooManyForms, NotRestricted, NoMemory}

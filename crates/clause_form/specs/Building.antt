@@ -1,12 +1,12 @@
 -- What the steps of forming answer. No public clause cites this module.
 use Rattle.std.specs.Prelude.{◌≡◌, ℕ, ◌+◌, ◌≤◌, ◌<◌, true, List, ◌∷◌, ◌++◌, length}
 use Rattle.std.specs.List.{list_all}
-use Rattle.mg_word.specs.Facts.{most_parts}
+use Rattle.mg_word.specs.Facts.{most_parts, most_forms}
 use Rattle.mg_word.specs.Forms.{is_restricted, clause_forms}
 use Rattle.mg_word.specs.declared.clause.Clause.{Clause}
 use Rattle.mg_word.specs.declared.form.Form.{Form}
 use Rattle.clause_form.specs.Free.{IsLeastFree}
-use Rattle.clause_form.specs.Faults.{most_forms, is_light_clause, IsFirstHeavy}
+use Rattle.clause_form.specs.Faults.{is_light_clause, IsFirstHeavy}
 use Rattle.clause_form.specs.declared.fault.FormFault.{FormFault}
 use Rattle.clause_form.specs.declared.fault.FormFault.TheVariants.{TooHeavy, TooManyForms, NotRestricted, NoMemory}
 

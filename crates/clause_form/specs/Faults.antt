@@ -1,6 +1,7 @@
 -- When the clauses of an input give no problem: which fault stands first.
 use Rattle.std.specs.Prelude.{◌≡◌, ℕ, ◌+◌, ◌≤◌, Bool, true, false, ◌&&◌, nat_le, List, ◌∷◌, ◌++◌, length}
 use Rattle.std.specs.List.{list_all}
+use Rattle.mg_word.specs.Facts.{most_forms, is_light_lit}
 use Rattle.mg_word.specs.Forms.{forms_of, clause_forms, is_restricted}
 use Rattle.mg_word.specs.declared.clause.ClauseLit.{ClauseLit}
 use Rattle.mg_word.specs.declared.clause.ClauseLit.TheVariants.{True, False, Lit as Literal}
@@ -10,19 +11,11 @@ use Rattle.clause_form.specs.Free.{IsLeastFree}
 use Rattle.clause_form.specs.declared.fault.FormFault.{FormFault}
 use Rattle.clause_form.specs.declared.fault.FormFault.TheVariants.{TooHeavy, TooManyForms, NotRestricted, NoMemory}
 
--- the most symbols and variables of a literal, counted together
-abbrev pub most_items : ℕ
-most_items = 4096
-
--- the most forms of a problem
-abbrev pub most_forms : ℕ
-most_forms = 100000
-
 -- the literal is not too heavy
 abbrev pub is_light : ClauseLit → Bool
 is_light True = true
 is_light False = true
-is_light (Literal lit) = nat_le (length lit.pattern) most_items
+is_light (Literal lit) = is_light_lit lit
 
 -- no literal of the clause is too heavy
 abbrev pub is_light_clause : Clause → Bool

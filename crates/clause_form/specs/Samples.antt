@@ -1,5 +1,5 @@
 -- What the tests build. No public clause cites this module.
-use Rattle.std.specs.Prelude.{ℕ, Bool, [], ◌∷◌}
+use Rattle.std.specs.Prelude.{Bool, [], ◌∷◌}
 use Rattle.mg_word.specs.declared.symbol.Kind.TheVariants.{Word}
 use Rattle.mg_word.specs.declared.item.Item.TheVariants.{Var}
 use Rattle.mg_word.specs.declared.clause.ClauseLit.TheVariants.{Lit as Literal}

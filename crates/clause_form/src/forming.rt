@@ -3,8 +3,8 @@
 ghost use Rattle.std.specs.Prelude.{◌≡◌, ◌++◌, ◌+◌, ◌<◌, ◌≤◌, [], ◌∷◌, length, IfOk, OnOk, IfErr, MatchResult, MatchOption, true, All};
 ghost use Rattle.std.specs.List.{list_all};
 ghost use Rattle.mg_word.specs.Forms as forms;
-ghost use Rattle.mg_word.specs.Facts.{most_parts};
-ghost use Rattle.clause_form.specs.Faults.{most_forms, is_light, is_light_clause, is_faultless, IsFirstHeavy, Stands};
+ghost use Rattle.mg_word.specs.Facts.{most_parts, most_forms};
+ghost use Rattle.clause_form.specs.Faults.{is_light, is_light_clause, is_faultless, IsFirstHeavy, Stands};
 ghost use Rattle.clause_form.specs.Building.{IsRefused, RefusesForm, RefusesClause, IsPushed, HasFewParts};
 
 use crate::FormFault;

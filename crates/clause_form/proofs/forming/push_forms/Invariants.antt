@@ -1,7 +1,7 @@
 use Rattle.std.proofs.Common.{◌≡◌, ◌≤◌, ◌++◌, length, true}
 use Rattle.std.specs.List.{list_all}
 use Rattle.mg_word.specs.Forms.{is_restricted}
-use Rattle.clause_form.specs.Faults.{most_forms}
+use Rattle.mg_word.specs.Facts.{most_forms}
 use Rattle.clause_form.proofs.FormLists.{first_forms}
 use Rattle.clause_form.proofs.forming.push_forms.Given as goal
 
