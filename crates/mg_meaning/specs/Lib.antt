@@ -1,2 +1,12 @@
+pub mod Bound
+pub mod Excluding
+pub mod Folding
+pub mod Instances
+pub mod Matches
+pub mod Matching
+pub mod Minimality
+pub mod PlainTree
 pub mod Refuting
+pub mod Satisfaction
 pub mod Truth
+pub mod Violation
