@@ -1,0 +1,6 @@
+pub mod Excluded
+pub mod Herbrand
+pub mod InstOrders
+pub mod Lists
+pub mod MinimalLists
+pub mod PlainShapes

@@ -2,6 +2,7 @@ pub mod Bound
 pub mod Excluding
 pub mod Folding
 pub mod Instances
+pub mod Laws
 pub mod Matches
 pub mod Matching
 pub mod Minimality

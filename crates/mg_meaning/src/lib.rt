@@ -1,2 +1,10 @@
 //! What clauses and forms mean: truth, refutation, satisfaction and the search, as definitions with their laws.
 #![tactic(auto)]
+
+mod laws;
+
+pub use laws::{
+    folded_pair_excludes, instances_are_ordered, instances_cover, instances_exclude,
+    leaf_pair_excludes, least_violated_is_unique, minimal_list_is_unique, plain_tree_is_unique,
+    rising_list_is_unique, satisfying_is_herbrand_model, satisfying_is_saturated, sets_are_ordered,
+};
