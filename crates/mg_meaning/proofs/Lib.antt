@@ -1,8 +1,10 @@
+pub mod Accepting
 pub mod Bindings
 pub mod Excluded
 pub mod Herbrand
 pub mod InstOrders
 pub mod Lists
+pub mod Matchings
 pub mod MinimalLists
 pub mod PlainShapes
 pub mod Terms

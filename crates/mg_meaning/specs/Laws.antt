@@ -1,12 +1,15 @@
 -- Laws of the definitions, each of which a public function of this crate states as its contract.
-use Rattle.std.specs.Prelude.{◌≡◌, ◌↔◌, ℕ, List, [], ◌∷◌, ◌++◌, length, All, Contains, IsTrue}
+use Rattle.std.specs.Prelude.{◌≡◌, ◌≢◌, ◌↔◌, ◌⊎◌, ℕ, false, List, [], ◌∷◌, ◌++◌, length, take, Option, All, AllPairs, Contains, IsTrue}
 use Rattle.std.specs.Cmp.{IsTotalOrder}
 use Rattle.std.specs.List.{list_any}
 use Rattle.std.specs.declared.cmp.Ordering.TheVariants.{Equal}
+use Rattle.mg_word.specs.Table.{Symbol}
+use Rattle.mg_word.specs.Words.{lit_instances}
 use Rattle.mg_word.specs.Orders.{lits_cmp}
-use Rattle.mg_word.specs.Sets.{is_part, is_rising, is_clash_free}
+use Rattle.mg_word.specs.Sets.{holds, is_part, is_rising, is_clash_free}
 use Rattle.mg_word.specs.Facts.{ProblemData, IsProblem}
 use Rattle.mg_word.specs.declared.lit.Lit.{Lit}
+use Rattle.mg_word.specs.declared.form.Form.{Form}
 use Rattle.mg_word.specs.declared.form.Inst.{Inst}
 use Rattle.mg_meaning.specs.Truth.{Ground, makes_true, atoms_of}
 use Rattle.mg_meaning.specs.Refuting.{IsClauseInstance}
@@ -16,6 +19,8 @@ use Rattle.mg_meaning.specs.Minimality.{ListsMinimal}
 use Rattle.mg_meaning.specs.Violation.{inst_cmp, IsLeast, IsSaturated}
 use Rattle.mg_meaning.specs.Excluding.{ExcludesBy, Excludes, Covers}
 use Rattle.mg_meaning.specs.Folding.{Pair, folded, rejecting, clashing, barring}
+use Rattle.mg_meaning.specs.Matches.{terms_of, IsPrefixMatch}
+use Rattle.mg_meaning.specs.Matching.{matches}
 use Rattle.mg_meaning.specs.PlainTree.{Plain}
 
 -- the order of sets is total, and only equal sets tie
@@ -74,3 +79,15 @@ pub record LeavesExclude : Type 0 where
 -- the plain tree has one number of extensions, or none
 abbrev pub PlainIsUnique : Type 0
 PlainIsUnique = (problem : ProblemData) (weight : ℕ) (held barred : List Lit) (a b : ℕ) → Plain problem weight held barred a → Plain problem weight held barred b → a ≡ b
+
+-- the list of matches has exactly the prefix matches, and each once where no literal stands twice
+pub record MatchesAreExact : Type 0 where
+  pub exact : (table : List Symbol) (form : Form) (count : ℕ) (held : List Lit) (terms : List (Option (List ℕ))) → Contains (matches table form count held) terms ↔ IsPrefixMatch table form count held terms
+  pub once : (table : List Symbol) (form : Form) (count : ℕ) (held : List Lit) → AllPairs (λ a b. a ≢ b) held → AllPairs (λ a b. a ≢ b) (matches table form count held)
+
+-- one literal more keeps the old matches and brings those that use it, which are new where the literal is
+pub record MatchesGrow : Type 0 where
+  pub grown : (table : List Symbol) (form : Form) (count : ℕ) (held : List Lit) (lit : Lit) (terms : List (Option (List ℕ))) → Contains (matches table form count (held ++ lit ∷ [])) terms
+      ↔ (Contains (matches table form count held) terms ⊎ (IsPrefixMatch table form count (held ++ lit ∷ []) terms × IsTrue (holds (lit_instances (terms_of terms) (take count form.premises)) lit)))
+  pub apart : (table : List Symbol) (form : Form) (count : ℕ) (held : List Lit) (lit : Lit) (terms : List (Option (List ℕ))) → holds held lit ≡ false → Contains (matches table form count held) terms
+      → holds (lit_instances (terms_of terms) (take count form.premises)) lit ≡ false

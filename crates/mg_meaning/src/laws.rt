@@ -1,6 +1,6 @@
 //! The laws of the definitions: each function states one as its contract and does nothing.
 
-ghost use Rattle.mg_meaning.specs.Laws.{OrdersSets, OrdersInstances, RisingIsUnique, LeastIsUnique, SatisfiesWhereSaturated, MinimalListIsUnique, IsHerbrandModel, InstancesExclude, InstancesCover, FoldExcludes, LeavesExclude, PlainIsUnique};
+ghost use Rattle.mg_meaning.specs.Laws.{OrdersSets, OrdersInstances, RisingIsUnique, LeastIsUnique, SatisfiesWhereSaturated, MinimalListIsUnique, IsHerbrandModel, InstancesExclude, InstancesCover, FoldExcludes, LeavesExclude, PlainIsUnique, MatchesAreExact, MatchesGrow};
 
 /// The order of sets is total, and only equal sets tie.
 pub fn sets_are_ordered()
@@ -71,5 +71,17 @@ pub fn leaf_pair_excludes()
 /// The plain tree has at most one number of extensions.
 pub fn plain_tree_is_unique()
     ensures { PlainIsUnique }
+{
+}
+
+/// The list of prefix matches has exactly the prefix matches, each once where no literal stands twice.
+pub fn matches_are_exact()
+    ensures { MatchesAreExact }
+{
+}
+
+/// One literal more keeps all prefix matches and adds exactly those that use it.
+pub fn matches_grow()
+    ensures { MatchesGrow }
 {
 }

@@ -5,6 +5,6 @@ mod laws;
 
 pub use laws::{
     folded_pair_excludes, instances_are_ordered, instances_cover, instances_exclude,
-    leaf_pair_excludes, least_violated_is_unique, minimal_list_is_unique, plain_tree_is_unique,
+    leaf_pair_excludes, least_violated_is_unique, matches_are_exact, matches_grow, minimal_list_is_unique, plain_tree_is_unique,
     rising_list_is_unique, satisfying_is_herbrand_model, satisfying_is_saturated, sets_are_ordered,
 };
