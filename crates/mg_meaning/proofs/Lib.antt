@@ -1,6 +1,7 @@
 pub mod Accepting
 pub mod Bindings
 pub mod Excluded
+pub mod Fronts
 pub mod Herbrand
 pub mod InstOrders
 pub mod Lists

@@ -2,6 +2,7 @@
 #![tactic(auto)]
 
 mod laws;
+mod matching;
 
 pub use laws::{
     folded_pair_excludes, instances_are_ordered, instances_cover, instances_exclude,
