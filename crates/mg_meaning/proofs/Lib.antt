@@ -1,5 +1,6 @@
 pub mod Accepting
 pub mod Bindings
+pub mod Binds
 pub mod Excluded
 pub mod Fronts
 pub mod Herbrand
