@@ -3,6 +3,7 @@ pub mod Excluding
 pub mod Folding
 pub mod Instances
 pub mod Laws
+pub mod Listing
 pub mod Matches
 pub mod Matching
 pub mod Minimality
