@@ -6,6 +6,7 @@ pub mod FormVariables
 pub mod Fronts
 pub mod Herbrand
 pub mod InstOrders
+pub mod Listings
 pub mod Lists
 pub mod Matchings
 pub mod MinimalLists

@@ -1,6 +1,7 @@
 //! What clauses and forms mean: truth, refutation, satisfaction and the search, as definitions with their laws.
 #![tactic(auto)]
 
+mod instances;
 mod laws;
 mod matching;
 
