@@ -2,6 +2,7 @@ pub mod Accepting
 pub mod Bindings
 pub mod Binds
 pub mod Excluded
+pub mod FormSteps
 pub mod FormVariables
 pub mod Fronts
 pub mod Herbrand
