@@ -7,6 +7,7 @@ pub mod FormVariables
 pub mod Fronts
 pub mod Herbrand
 pub mod InstOrders
+pub mod LeastSteps
 pub mod Listings
 pub mod Lists
 pub mod Matchings

@@ -3,6 +3,7 @@
 
 mod instances;
 mod laws;
+mod least;
 mod matching;
 
 pub use laws::{
