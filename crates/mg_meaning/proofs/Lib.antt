@@ -1,4 +1,5 @@
 pub mod Accepting
+pub mod Answering
 pub mod Bindings
 pub mod Binds
 pub mod Excluded

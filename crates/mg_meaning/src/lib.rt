@@ -5,6 +5,7 @@ mod instances;
 mod laws;
 mod least;
 mod matching;
+mod satisfying;
 
 pub use laws::{
     folded_pair_excludes, instances_are_ordered, instances_cover, instances_exclude,
