@@ -13,5 +13,6 @@ pub mod Listings
 pub mod Lists
 pub mod Matchings
 pub mod MinimalLists
+pub mod PartsTried
 pub mod PlainShapes
 pub mod Terms

@@ -7,6 +7,7 @@ pub mod Listing
 pub mod Matches
 pub mod Matching
 pub mod Minimality
+pub mod Parts
 pub mod PlainTree
 pub mod Refuting
 pub mod Satisfaction

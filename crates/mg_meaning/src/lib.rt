@@ -5,6 +5,7 @@ mod instances;
 mod laws;
 mod least;
 mod matching;
+mod minimal;
 mod satisfying;
 
 pub use laws::{
