@@ -2,6 +2,7 @@ pub mod Accepting
 pub mod Answering
 pub mod Bindings
 pub mod Binds
+pub mod Decided
 pub mod Excluded
 pub mod FormSteps
 pub mod FormVariables

@@ -1,4 +1,5 @@
 pub mod Bound
+pub mod Deciding
 pub mod Excluding
 pub mod Folding
 pub mod Instances
