@@ -15,7 +15,8 @@ use Rattle.mg_meaning.specs.Truth.{Ground, makes_true, atoms_of}
 use Rattle.mg_meaning.specs.Refuting.{IsClauseInstance}
 use Rattle.mg_meaning.specs.Instances.{are_literals, IsInstance}
 use Rattle.mg_meaning.specs.Satisfaction.{Satisfies}
-use Rattle.mg_meaning.specs.Minimality.{ListsMinimal}
+use Rattle.mg_meaning.specs.Minimality.{IsMinimal, ListsMinimal}
+use Rattle.mg_meaning.specs.Deciding.{is_satisfying, is_least}
 use Rattle.mg_meaning.specs.Violation.{inst_cmp, IsLeast, IsSaturated}
 use Rattle.mg_meaning.specs.Excluding.{ExcludesBy, Excludes, Covers}
 use Rattle.mg_meaning.specs.Folding.{Pair, folded, rejecting, clashing, barring}
@@ -91,3 +92,13 @@ pub record MatchesGrow : Type 0 where
       ↔ (Contains (matches table form count held) terms ⊎ (IsPrefixMatch table form count (held ++ lit ∷ []) terms × IsTrue (holds (lit_instances (terms_of terms) (take count form.premises)) lit)))
   pub apart : (table : List Symbol) (form : Form) (count : ℕ) (held : List Lit) (lit : Lit) (terms : List (Option (List ℕ))) → holds held lit ≡ false → Contains (matches table form count held) terms
       → holds (lit_instances (terms_of terms) (take count form.premises)) lit ≡ false
+
+-- satisfaction and minimality are decided by their tests
+pub record SatisfyingIsDecided : Type 0 where
+  pub satisfying : (problem : ProblemData) → IsProblem problem → (set : List Lit) → IsTrue (is_satisfying problem set) ↔ Satisfies set problem
+  pub minimal : (problem : ProblemData) → IsProblem problem → (set : List Lit) → Satisfies set problem → IsTrue (is_least problem set) ↔ IsMinimal set problem
+
+-- each satisfying set includes a minimal one, as a rising list
+abbrev pub IncludesMinimal : Type 0
+IncludesMinimal = (problem : ProblemData) → IsProblem problem → (set : List Lit) → Satisfies set problem
+    → (least : List Lit) × IsTrue (is_rising least) × IsMinimal least problem × IsTrue (is_part least set)

@@ -1,6 +1,6 @@
 //! The laws of the definitions: each function states one as its contract and does nothing.
 
-ghost use Rattle.mg_meaning.specs.Laws.{OrdersSets, OrdersInstances, RisingIsUnique, LeastIsUnique, SatisfiesWhereSaturated, MinimalListIsUnique, IsHerbrandModel, InstancesExclude, InstancesCover, FoldExcludes, LeavesExclude, PlainIsUnique, MatchesAreExact, MatchesGrow};
+ghost use Rattle.mg_meaning.specs.Laws.{OrdersSets, OrdersInstances, RisingIsUnique, LeastIsUnique, SatisfiesWhereSaturated, MinimalListIsUnique, IsHerbrandModel, InstancesExclude, InstancesCover, FoldExcludes, LeavesExclude, PlainIsUnique, MatchesAreExact, MatchesGrow, SatisfyingIsDecided, IncludesMinimal};
 
 /// The order of sets is total, and only equal sets tie.
 pub fn sets_are_ordered()
@@ -83,5 +83,17 @@ pub fn matches_are_exact()
 /// One literal more keeps all prefix matches and adds exactly those that use it.
 pub fn matches_grow()
     ensures { MatchesGrow }
+{
+}
+
+/// Whether a set satisfies a problem, and whether it is minimal, are decided by tests.
+pub fn satisfying_is_decided()
+    ensures { SatisfyingIsDecided }
+{
+}
+
+/// Each satisfying set includes a minimal one.
+pub fn satisfying_includes_minimal()
+    ensures { IncludesMinimal }
 {
 }
