@@ -3,6 +3,7 @@ pub mod Answering
 pub mod Bindings
 pub mod Binds
 pub mod Decided
+pub mod Examples
 pub mod Excluded
 pub mod FormSteps
 pub mod FormVariables

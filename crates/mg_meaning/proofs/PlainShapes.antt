@@ -51,3 +51,34 @@ mutual
 
 pub plain_same : (problem : ProblemData) (weight : ℕ) (held barred : List Lit) (a b : ℕ) → Plain problem weight held barred a → Plain problem weight held barred b → a ≡ b
 plain_same problem weight held barred a b p q = sym p.2 ∙ ap extends_in (shape_same problem weight p.0 q.0 held barred p.1 q.1) ∙ q.2
+
+-- where the least violated instance weighs more than the limit, the plain tree has no number of extensions
+pub heavy_not_plain : (problem : ProblemData) (weight : ℕ) (held barred : List Lit) (inst : Inst) → IsLeast problem held inst → weight < weight_of inst → (count : ℕ) → Plain problem weight held barred count → ⊥
+heavy_not_plain problem weight held barred inst least heavy count (shape, is, size) = by shape is
+  where
+    by : (one : Shape) → IsPlain problem weight held barred one → ⊥
+    by saturated is = least_not_saturated problem held inst least is
+    by (rejected other) is =
+        let same : inst ≡ other = least_same problem held inst other least is.0 in
+        some_conclusions inst (omega (arith, heavy)) (ap (λ (one : Inst). one.conclusions) same ∙ is.1)
+    by (split other children) is =
+        let same : weight_of inst ≡ weight_of other = ap weight_of (least_same problem held inst other least is.0) in
+        omega (arith, heavy, same, is.2)
+
+-- nor has it where the first child, which is open, has none
+pub heavy_child : (problem : ProblemData) (weight : ℕ) (held barred : List Lit) (inst : Inst) (conclusion : Lit) (conclusions : List Lit) → IsLeast problem held inst → inst.conclusions ≡ conclusion ∷ conclusions
+    → is_closed_at_once held barred conclusion ≡ false → ((count : ℕ) → Plain problem weight (held ++ conclusion ∷ []) barred count → ⊥) → (count : ℕ) → Plain problem weight held barred count → ⊥
+heavy_child problem weight held barred inst conclusion conclusions least first opened none_below count (shape, is, size) = by shape is
+  where
+    kids : (children : Shapes) → ArePlain problem weight held barred (conclusion ∷ conclusions) children → ⊥
+    kids none are = are
+    kids (shut children) are = true≢false (sym are.0 ∙ opened)
+    kids (child one children) are = none_below (extends_in one) (one, are.1, refl)
+    by : (one : Shape) → IsPlain problem weight held barred one → ⊥
+    by saturated is = least_not_saturated problem held inst least is
+    by (rejected other) is =
+        let same : inst ≡ other = least_same problem held inst other least is.0 in
+        let bad : conclusion ∷ conclusions ≡ [] = sym first ∙ (ap (λ (one : Inst). one.conclusions) same ∙ is.1) in cc
+    by (split other children) is =
+        let same : inst ≡ other = least_same problem held inst other least is.0 in
+        kids children (subst (λ lits. ArePlain problem weight held barred lits children) (sym (ap (λ (one : Inst). one.conclusions) same) ∙ first) is.3)

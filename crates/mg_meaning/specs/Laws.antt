@@ -1,5 +1,5 @@
 -- Laws of the definitions, each of which a public function of this crate states as its contract.
-use Rattle.std.specs.Prelude.{◌≡◌, ◌≢◌, ◌↔◌, ◌⊎◌, ℕ, false, List, [], ◌∷◌, ◌++◌, length, take, Option, All, AllPairs, Contains, IsTrue}
+use Rattle.std.specs.Prelude.{◌≡◌, ◌≢◌, ◌↔◌, ◌⊎◌, ℕ, ◌<◌, false, List, [], ◌∷◌, ◌++◌, length, take, Option, All, AllPairs, Contains, IsTrue}
 use Rattle.std.specs.Cmp.{IsTotalOrder}
 use Rattle.std.specs.List.{list_any}
 use Rattle.std.specs.declared.cmp.Ordering.TheVariants.{Equal}
@@ -17,7 +17,7 @@ use Rattle.mg_meaning.specs.Instances.{are_literals, IsInstance}
 use Rattle.mg_meaning.specs.Satisfaction.{Satisfies}
 use Rattle.mg_meaning.specs.Minimality.{IsMinimal, ListsMinimal}
 use Rattle.mg_meaning.specs.Deciding.{is_satisfying, is_least}
-use Rattle.mg_meaning.specs.Violation.{inst_cmp, IsLeast, IsSaturated}
+use Rattle.mg_meaning.specs.Violation.{weight_of, inst_cmp, IsLeast, IsSaturated}
 use Rattle.mg_meaning.specs.Excluding.{ExcludesBy, Excludes, Covers}
 use Rattle.mg_meaning.specs.Folding.{Pair, folded, rejecting, clashing, barring}
 use Rattle.mg_meaning.specs.Matches.{terms_of, IsPrefixMatch}
@@ -102,3 +102,7 @@ pub record SatisfyingIsDecided : Type 0 where
 abbrev pub IncludesMinimal : Type 0
 IncludesMinimal = (problem : ProblemData) → IsProblem problem → (set : List Lit) → Satisfies set problem
     → (least : List Lit) × IsTrue (is_rising least) × IsMinimal least problem × IsTrue (is_part least set)
+
+-- where the least violated instance weighs more than the limit, the plain tree has no number of extensions
+abbrev pub HeavyHasNoPlain : Type 0
+HeavyHasNoPlain = (problem : ProblemData) (weight : ℕ) (held barred : List Lit) (inst : Inst) → IsLeast problem held inst → weight < weight_of inst → (count : ℕ) → Plain problem weight held barred count → ⊥

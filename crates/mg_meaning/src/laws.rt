@@ -1,6 +1,6 @@
 //! The laws of the definitions: each function states one as its contract and does nothing.
 
-ghost use Rattle.mg_meaning.specs.Laws.{OrdersSets, OrdersInstances, RisingIsUnique, LeastIsUnique, SatisfiesWhereSaturated, MinimalListIsUnique, IsHerbrandModel, InstancesExclude, InstancesCover, FoldExcludes, LeavesExclude, PlainIsUnique, MatchesAreExact, MatchesGrow, SatisfyingIsDecided, IncludesMinimal};
+ghost use Rattle.mg_meaning.specs.Laws.{OrdersSets, OrdersInstances, RisingIsUnique, LeastIsUnique, SatisfiesWhereSaturated, MinimalListIsUnique, IsHerbrandModel, InstancesExclude, InstancesCover, FoldExcludes, LeavesExclude, PlainIsUnique, MatchesAreExact, MatchesGrow, SatisfyingIsDecided, IncludesMinimal, HeavyHasNoPlain};
 
 /// The order of sets is total, and only equal sets tie.
 pub fn sets_are_ordered()
@@ -95,5 +95,11 @@ pub fn satisfying_is_decided()
 /// Each satisfying set includes a minimal one.
 pub fn satisfying_includes_minimal()
     ensures { IncludesMinimal }
+{
+}
+
+/// The plain tree has no number of extensions where the least violated instance is too heavy.
+pub fn heavy_has_no_plain_tree()
+    ensures { HeavyHasNoPlain }
 {
 }
