@@ -1,8 +1,8 @@
 -- Satisfaction and minimality are decided by their tests, and each satisfying set includes a minimal one.
-use Rattle.std.proofs.Common.{◌≡◌, ℕ, zero, suc, ◌<◌, ◌≤◌, Bool, true, false, true≢false, not, ◌&&◌, List, [], ◌∷◌, ◌++◌, length, All, Contains, IsTrue, ◌↔◌, refl, sym, ap, subst, ◌∙◌, get_or, ◌⊎◌, inl, inr, arith}
-use Rattle.std.specs.List.{list_all, flat_map}
+use Rattle.std.proofs.Common.{◌≡◌, ℕ, zero, suc, ◌<◌, true, false, true≢false, not, ◌&&◌, List, [], ◌∷◌, length, Contains, IsTrue, ◌↔◌, refl, sym, ap, subst, ◌∙◌, get_or, ◌⊎◌, inl, inr, arith}
+use Rattle.std.specs.List.{list_all}
 use Rattle.std.proofs.lemmas.List.Elements.{Contains-get_or}
-use Rattle.mg_word.specs.Sets.{holds, is_part, is_proper_part, is_clash_free, is_rising, set_of}
+use Rattle.mg_word.specs.Sets.{is_part, is_proper_part, is_clash_free, is_rising, set_of}
 use Rattle.mg_word.specs.Facts.{ProblemData, IsProblem}
 use Rattle.mg_word.specs.declared.lit.Lit.{Lit}
 use Rattle.mg_word.specs.declared.form.Inst.{Inst}
@@ -13,9 +13,9 @@ use Rattle.mg_meaning.specs.Satisfaction.{Satisfies}
 use Rattle.mg_meaning.specs.Minimality.{IsMinimal}
 use Rattle.mg_meaning.specs.Violation.{is_violated}
 use Rattle.mg_meaning.specs.Listing.{violated_in}
-use Rattle.mg_meaning.specs.Parts.{with_and_without, parts_of, IsSmaller}
+use Rattle.mg_meaning.specs.Parts.{parts_of, IsSmaller}
 use Rattle.mg_meaning.specs.Deciding.{is_none, is_satisfying, is_least}
-use Rattle.mg_meaning.proofs.Lists.{Among, among_from, contains_from, among-flat_map, Contains-first}
+use Rattle.mg_meaning.proofs.Lists.{Among, among_from, among-flat_map, Contains-first}
 use Rattle.mg_meaning.proofs.Excluded.{satisfied_fine, satisfies_where_saturated}
 use Rattle.mg_meaning.proofs.Listings.{violated_exact}
 use Rattle.mg_meaning.proofs.LeastSteps.{none_listed}
@@ -34,12 +34,12 @@ none_from problem set (inst ∷ insts) exact satisfied =
 pub satisfying_decided : (problem : ProblemData) → IsProblem problem → (set : List Lit) → IsTrue (is_satisfying problem set) ↔ Satisfies set problem
 satisfying_decided problem real set = (
   (λ e.
-  let first = both_true (is_clash_free set) (are_literals problem.symbols set && is_none (violated_in problem set)) e in
-  let second = both_true (are_literals problem.symbols set) (is_none (violated_in problem set)) first.1 in
-  (satisfies_where_saturated set problem).1 (first.0, second.0, none_listed problem set (violated_in problem set) (violated_exact problem real set) (empty_from (violated_in problem set) second.1))),
+      let first = both_true (is_clash_free set) (are_literals problem.symbols set && is_none (violated_in problem set)) e in
+      let second = both_true (are_literals problem.symbols set) (is_none (violated_in problem set)) first.1 in
+      (satisfies_where_saturated set problem).1 (first.0, second.0, none_listed problem set (violated_in problem set) (violated_exact problem real set) (empty_from (violated_in problem set) second.1))),
   (λ satisfied.
-  and_true (is_clash_free set) (are_literals problem.symbols set && is_none (violated_in problem set)) satisfied.consistent
-  (and_true (are_literals problem.symbols set) (is_none (violated_in problem set)) satisfied.fitting (none_from problem set (violated_in problem set) (violated_exact problem real set) satisfied))),
+      and_true (is_clash_free set) (are_literals problem.symbols set && is_none (violated_in problem set)) satisfied.consistent
+      (and_true (are_literals problem.symbols set) (is_none (violated_in problem set)) satisfied.fitting (none_from problem set (violated_in problem set) (violated_exact problem real set) satisfied))),
 )
 
 -- of some parts, the first that is smaller, or none is
@@ -50,13 +50,13 @@ seek_smaller problem real set [] = ((λ e part there smaller. there), (λ e. abs
 seek_smaller problem real set (first ∷ parts) =
     let rest = seek_smaller problem real set parts in (
       (λ e part there smaller.
-      let each = both_true (not (is_proper_part first set && is_satisfying problem first)) (list_all (λ part. not (is_proper_part part set && is_satisfying problem part)) parts) e in
-      elim there [
-        | inl same ↦
-            let own : IsSmaller problem set first = subst (IsSmaller problem set) (sym same) smaller in
-            true≢false (sym (and_true (is_proper_part first set) (is_satisfying problem first) own.proper ((satisfying_decided problem real first).1 own.satisfying)) ∙ not_true (is_proper_part first set && is_satisfying problem first) each.0)
-        | inr later ↦ rest.0 each.1 part later smaller
-      ]),
+          let each = both_true (not (is_proper_part first set && is_satisfying problem first)) (list_all (λ part. not (is_proper_part part set && is_satisfying problem part)) parts) e in
+          elim there [
+            | inl same ↦
+                let own : IsSmaller problem set first = subst (IsSmaller problem set) (sym same) smaller in
+                true≢false (sym (and_true (is_proper_part first set) (is_satisfying problem first) own.proper ((satisfying_decided problem real first).1 own.satisfying)) ∙ not_true (is_proper_part first set && is_satisfying problem first) each.0)
+            | inr later ↦ rest.0 each.1 part later smaller
+          ]),
       (λ e. elim (two_cases (is_proper_part first set && is_satisfying problem first)) [
         | inl is ↦
             let both = both_true (is_proper_part first set) (is_satisfying problem first) is in
@@ -71,9 +71,9 @@ seek_smaller problem real set (first ∷ parts) =
 pub least_decided : (problem : ProblemData) → IsProblem problem → (set : List Lit) → Satisfies set problem → IsTrue (is_least problem set) ↔ IsMinimal set problem
 least_decided problem real set satisfied = (
   (λ e. (minimal_test problem set false satisfied (λ bad. absurd (true≢false (sym bad)))
-  (λ _ k d within smaller. (seek_smaller problem real set (parts_of set)).0 e (get_or (parts_of set) k d) (among_from (parts_of set) (get_or (parts_of set) k d) (Contains-get_or (parts_of set) k d within)) smaller)).0 refl),
+      (λ _ k d within smaller. (seek_smaller problem real set (parts_of set)).0 e (get_or (parts_of set) k d) (among_from (parts_of set) (get_or (parts_of set) k d) (Contains-get_or (parts_of set) k d within)) smaller)).0 refl),
   (λ minimal. never_false (is_least problem set) (λ out.
-  let (part, there, smaller) = (seek_smaller problem real set (parts_of set)).1 out in minimal.least part smaller.proper smaller.satisfying)),
+      let (part, there, smaller) = (seek_smaller problem real set (parts_of set)).1 out in minimal.least part smaller.proper smaller.satisfying)),
 )
 
 -- a part is no longer than the list, and only the list itself is as long

@@ -1,21 +1,17 @@
 -- Small problems worked by hand, against the definitions.
-use Rattle.std.proofs.Common.{◌≡◌, ℕ, zero, suc, ◌<◌, ◌≤◌, Bool, true, false, true≢false, List, [], ◌∷◌, ◌++◌, length, Option, None, Some, All, Contains, IsTrue, ◌↔◌, refl, sym, ap, subst, ◌∙◌, arith, ◌&&◌, filter}
+use Rattle.std.proofs.Common.{◌≡◌, ℕ, ◌≤◌, true, false, true≢false, List, [], ◌∷◌, length, None, Some, Contains, IsTrue, ◌↔◌, refl, sym, subst, arith, ◌&&◌, filter}
 use Rattle.std.specs.List.{list_all, flat_map}
 use Rattle.std.proofs.lemmas.List.Elements.{All-nil, All-cons}
 use Rattle.mg_word.specs.Table.{Symbol}
-use Rattle.mg_word.specs.Words.{form_instance}
-use Rattle.mg_word.specs.Forms.{forms_of, further_form, plain_form, is_among}
-use Rattle.mg_word.specs.Facts.{ProblemData, IsProblem, IsInput, IsClause, literal_fits, literal_variables, are_choices}
-use Rattle.mg_word.specs.Sets.{with_lit}
+use Rattle.mg_word.specs.Forms.{forms_of, is_among}
+use Rattle.mg_word.specs.Facts.{ProblemData, IsProblem, IsClause, literal_fits, literal_variables, are_choices}
 use Rattle.mg_word.specs.declared.symbol.Kind.TheVariants.{Word}
 use Rattle.mg_word.specs.declared.item.Item.{Item}
 use Rattle.mg_word.specs.declared.item.Item.TheVariants.{Sym, Var}
 use Rattle.mg_word.specs.declared.lit.Lit.{Lit}
-use Rattle.mg_word.specs.declared.lit.PatLit.{PatLit}
 use Rattle.mg_word.specs.declared.clause.Clause.{Clause}
 use Rattle.mg_word.specs.declared.clause.ClauseLit.{ClauseLit}
 use Rattle.mg_word.specs.declared.clause.ClauseLit.TheVariants.{Lit as Literal}
-use Rattle.mg_word.specs.declared.form.Form.{Form}
 use Rattle.mg_word.specs.declared.form.Inst.{Inst}
 use Rattle.mg_meaning.specs.Satisfaction.{Satisfies}
 use Rattle.mg_meaning.specs.Minimality.{IsMinimal}
@@ -23,8 +19,8 @@ use Rattle.mg_meaning.specs.Violation.{IsLeast, IsSaturated}
 use Rattle.mg_meaning.specs.Matching.{matches}
 use Rattle.mg_meaning.specs.Listing.{violated_in}
 use Rattle.mg_meaning.specs.Deciding.{is_satisfying, is_least}
-use Rattle.mg_meaning.specs.Folding.{Pair, folded}
-use Rattle.mg_meaning.specs.PlainTree.{saturated, split, none, shut, child, is_closed_at_once, Plain}
+use Rattle.mg_meaning.specs.Folding.{folded}
+use Rattle.mg_meaning.specs.PlainTree.{saturated, split, none, shut, child, Plain}
 use Rattle.mg_meaning.specs.Bound.{bound}
 use Rattle.mg_meaning.specs.Instances.{IsInstance}
 use Rattle.mg_meaning.specs.Violation.{is_violated}
@@ -187,7 +183,7 @@ table = word_symbol 97 0 ∷ word_symbol 98 0 ∷ word_symbol 99 0 ∷ word_symb
 
 -- p(X), q(Y) over p(a), p(b), q(c): two substitutions
 two_substitutions : matches table (record { clause = 0; variables = 2; premises = record { negative = false; pattern = Sym 3 ∷ Var 0 ∷ [] } ∷ record { negative = false; pattern = Sym 4 ∷ Var 1 ∷ [] } ∷ []; conclusions = [] }) 2
-        (positive (3 ∷ 0 ∷ []) ∷ positive (3 ∷ 1 ∷ []) ∷ positive (4 ∷ 2 ∷ []) ∷ [])
+    (positive (3 ∷ 0 ∷ []) ∷ positive (3 ∷ 1 ∷ []) ∷ positive (4 ∷ 2 ∷ []) ∷ [])
     ≡ (Some (0 ∷ []) ∷ Some (2 ∷ []) ∷ []) ∷ (Some (1 ∷ []) ∷ Some (2 ∷ []) ∷ []) ∷ []
 two_substitutions = refl
 
@@ -198,7 +194,7 @@ one_substitution = refl
 
 -- s(X,X) over s(f(a),f(a)) and s(a,b): the first alone
 same_term_twice : matches table (record { clause = 0; variables = 1; premises = record { negative = false; pattern = Sym 5 ∷ Var 0 ∷ Var 0 ∷ [] } ∷ []; conclusions = [] }) 1
-        (positive (5 ∷ 6 ∷ 0 ∷ 6 ∷ 0 ∷ []) ∷ positive (5 ∷ 0 ∷ 1 ∷ []) ∷ [])
+    (positive (5 ∷ 6 ∷ 0 ∷ 6 ∷ 0 ∷ []) ∷ positive (5 ∷ 0 ∷ 1 ∷ []) ∷ [])
     ≡ (Some (6 ∷ 0 ∷ []) ∷ []) ∷ []
 same_term_twice = refl
 
@@ -209,7 +205,7 @@ negated_premise = refl
 
 -- of the second premise the first match has no term
 first_premise_alone : matches table (record { clause = 0; variables = 2; premises = record { negative = false; pattern = Sym 3 ∷ Var 0 ∷ [] } ∷ record { negative = false; pattern = Sym 4 ∷ Var 1 ∷ [] } ∷ []; conclusions = [] }) 1
-        (positive (3 ∷ 0 ∷ []) ∷ [])
+    (positive (3 ∷ 0 ∷ []) ∷ [])
     ≡ (Some (0 ∷ []) ∷ None ∷ []) ∷ []
 first_premise_alone = refl
 
@@ -239,7 +235,9 @@ one_extension : Plain twice 1 [] [] 1
 one_extension = (
   split twice_inst (child saturated (shut none)),
   (
-    least_alone twice twice_real [] twice_inst refl, omega arith, omega arith,
+    least_alone twice twice_real [] twice_inst refl,
+    omega arith,
+    omega arith,
     (refl, saturated_empty twice twice_real (p ∷ []) refl, (refl, tt)),
   ),
   refl,
@@ -286,6 +284,6 @@ none_at_two count plain =
 -- ---- a fold: b -> x;y, where the lemma of the second child has x and z outside
 
 folded_example : folded (record { form = 1; subst = []; premises = positive (0 ∷ []) ∷ []; conclusions = positive (1 ∷ []) ∷ positive (2 ∷ []) ∷ [] })
-        (record { inside = positive (1 ∷ []) ∷ []; outside = [] } ∷ record { inside = positive (2 ∷ []) ∷ positive (4 ∷ []) ∷ []; outside = positive (1 ∷ []) ∷ positive (3 ∷ []) ∷ [] } ∷ [])
+    (record { inside = positive (1 ∷ []) ∷ []; outside = [] } ∷ record { inside = positive (2 ∷ []) ∷ positive (4 ∷ []) ∷ []; outside = positive (1 ∷ []) ∷ positive (3 ∷ []) ∷ [] } ∷ [])
     ≡ record { inside = positive (0 ∷ []) ∷ positive (4 ∷ []) ∷ []; outside = positive (3 ∷ []) ∷ [] }
 folded_example = refl

@@ -1,13 +1,13 @@
 -- What instances exclude: those of the problem exclude for it, and folded pairs exclude where their parts do.
-use Rattle.std.proofs.Common.{◌≡◌, Bool, true, false, true≢false, not, ◌&&◌, ℕ, List, [], ◌∷◌, ◌++◌, length, filter, All, Contains, IsTrue, ◌↔◌, refl, sym, ap, subst, ◌∙◌, ◌⊎◌, inl, inr, arith}
-use Rattle.std.specs.List.{list_all, list_any}
+use Rattle.std.proofs.Common.{◌≡◌, Bool, true, false, true≢false, not, List, [], ◌∷◌, ◌++◌, length, All, Contains, IsTrue, ◌↔◌, refl, sym, ap, ◌∙◌, ◌⊎◌, inl, inr, arith}
+use Rattle.std.specs.List.{list_any}
 use Rattle.std.proofs.lemmas.List.Elements.{All-head, All-tail}
 use Rattle.mg_word.specs.Sets.{same_lit, holds, is_part, meets, is_clash_free, set_of}
 use Rattle.mg_word.specs.Words.{complement_of}
 use Rattle.mg_word.specs.Facts.{ProblemData}
 use Rattle.mg_word.specs.declared.lit.Lit.{Lit}
 use Rattle.mg_word.specs.declared.form.Inst.{Inst}
-use Rattle.mg_word.proofs.Members.{either_true, holds-append, both_true, and_true, not_true, not_false, never_true, or_true, holds_cases, holds_first, holds_later, holds_left, holds_right, part_holds, part_from, meets_at, meets_where, none_met, not_met, clash_free_at, lit_is_itself}
+use Rattle.mg_word.proofs.Members.{either_true, holds-append, both_true, and_true, not_true, not_false, never_true, or_true, holds_cases, holds_first, holds_later, holds_left, holds_right, part_holds, part_from, none_met, not_met, clash_free_at, lit_is_itself}
 use Rattle.mg_word.proofs.Risings.{holds-set_of}
 use Rattle.mg_meaning.proofs.Lists.{Among, among_from}
 use Rattle.mg_meaning.specs.Instances.{are_literals, IsInstance}
@@ -110,24 +110,27 @@ none_held insts before (conclusion ∷ conclusions) (pair ∷ pairs) set each fr
     own_inside : holds set conclusion ≡ true → is_part pair.inside set ≡ true
     own_inside here = part_from pair.inside set (λ lit there. elim (holds-without (conclusion ∷ []) pair.inside lit there) [
       | inl own ↦ elim (holds_cases conclusion [] lit own) [
-          | inl same ↦ ap (holds set) (sym same) ∙ here
-          | inr bad ↦ absurd (true≢false (sym bad))
-        ]
+        | inl same ↦ ap (holds set) (sym same) ∙ here
+        | inr bad ↦ absurd (true≢false (sym bad))
+      ]
       | inr left ↦ part_holds (without (conclusion ∷ []) pair.inside ++ insides conclusions pairs) set lit inside (holds_left (without (conclusion ∷ []) pair.inside) (insides conclusions pairs) lit left)
     ])
+
     own_outside : meets pair.outside set ≡ false
     own_outside = none_met pair.outside set (λ lit there. elim (holds-without before pair.outside lit there) [
       | inl taken ↦ not_met before set lit none taken
       | inr left ↦ not_met (without before pair.outside ++ outsides (before ++ conclusion ∷ []) conclusions pairs) set lit outside (holds_left (without before pair.outside) (outsides (before ++ conclusion ∷ []) conclusions pairs) lit left)
     ])
+
     no_more : holds set conclusion ≡ false → meets (before ++ conclusion ∷ []) set ≡ false
     no_more out = none_met (before ++ conclusion ∷ []) set (λ lit there. elim (either_true (holds before lit) (holds (conclusion ∷ []) lit) (sym (holds-append before (conclusion ∷ []) lit) ∙ there)) [
       | inl old ↦ not_met before set lit none old
       | inr own ↦ elim (holds_cases conclusion [] lit own) [
-          | inl same ↦ ap (holds set) (sym same) ∙ out
-          | inr bad ↦ absurd (true≢false (sym bad))
-        ]
+        | inl same ↦ ap (holds set) (sym same) ∙ out
+        | inr bad ↦ absurd (true≢false (sym bad))
+      ]
     ])
+
     by : (here : Bool) → holds set conclusion ≡ here → (meets (before ++ conclusion ∷ []) set ≡ false → meets conclusions set ≡ false) → meets (conclusion ∷ conclusions) set ≡ false
     by true is go = absurd (true≢false (sym (passing_from set pair.inside pair.outside (own_inside is) own_outside) ∙ each.0 set free obeying))
     by false is go = rw is (go (no_more is))

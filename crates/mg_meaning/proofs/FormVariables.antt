@@ -1,12 +1,12 @@
 -- The variables of a problem's form are exactly those of its premises.
-use Rattle.std.proofs.Common.{◌≡◌, ℕ, zero, suc, ◌+◌, ◌<◌, Bool, true, false, true≢false, not, ◌&&◌, ◌||◌, List, [], ◌∷◌, ◌++◌, map, length, Option, Some, None, slice_get, All, refl, sym, ap, subst, ◌∙◌, ◌⊎◌, inl, inr, if◌then◌else◌, nat_lt, nat_eq, arith}
-use Rattle.std.specs.List.{list_all, list_any, flat_map}
+use Rattle.std.proofs.Common.{◌≡◌, ℕ, zero, suc, ◌+◌, ◌<◌, Bool, true, false, true≢false, List, [], ◌∷◌, ◌++◌, map, length, Option, Some, None, slice_get, refl, sym, ap, subst, ◌∙◌, ◌⊎◌, inl, inr, if◌then◌else◌, nat_lt, nat_eq}
+use Rattle.std.specs.List.{list_all, flat_map}
 use Rattle.std.specs.Option.{option_map_or}
 use Rattle.std.proofs.lemmas.Bool.{ltb-true, lt-ltb, eqb-true}
 use Rattle.std.proofs.lemmas.List.Elements.{All-contains}
 use Rattle.mg_word.specs.Table.{Symbol}
 use Rattle.mg_word.specs.Words.{are_patterns, pattern_fits, numbered}
-use Rattle.mg_word.specs.Forms.{opposite, premises_of, conclusions_of, is_among, chosen_from, others_from, is_always_true, plain_form, further_form, clause_forms, forms_from, forms_of, item_variables, pattern_variables, lits_variables, is_restricted}
+use Rattle.mg_word.specs.Forms.{opposite, premises_of, conclusions_of, is_among, chosen_from, others_from, is_always_true, plain_form, further_form, clause_forms, forms_from, pattern_variables, lits_variables, is_restricted}
 use Rattle.mg_word.specs.Facts.{ProblemData, IsProblem, IsClause, literal_fits, literal_variables}
 use Rattle.mg_word.specs.declared.item.Item.{Item}
 use Rattle.mg_word.specs.declared.item.Item.TheVariants.{Sym, Var}
@@ -50,9 +50,9 @@ literal_more lit literals true premises conclusions has = record {
   all = λ k there. elim (among_cases (pattern_variables lit.pattern) (flat_map literal_variables literals) k there) [
     | inl here ↦ inr (among_front (pattern_variables lit.pattern) (lits_variables conclusions) k here)
     | inr later ↦ elim (has.all k later) [
-        | inl premise ↦ inl premise
-        | inr conclusion ↦ inr (among_back (pattern_variables lit.pattern) (lits_variables conclusions) k conclusion)
-      ]
+      | inl premise ↦ inl premise
+      | inr conclusion ↦ inr (among_back (pattern_variables lit.pattern) (lits_variables conclusions) k conclusion)
+    ]
   ];
   only = λ k there. among_back (pattern_variables lit.pattern) (flat_map literal_variables literals) k (has.only k there);
 }
@@ -60,9 +60,9 @@ literal_more lit literals false premises conclusions has = record {
   all = λ k there. elim (among_cases (pattern_variables lit.pattern) (flat_map literal_variables literals) k there) [
     | inl here ↦ inl (among_front (pattern_variables lit.pattern) (lits_variables premises) k here)
     | inr later ↦ elim (has.all k later) [
-        | inl premise ↦ inl (among_back (pattern_variables lit.pattern) (lits_variables premises) k premise)
-        | inr conclusion ↦ inr conclusion
-      ]
+      | inl premise ↦ inl (among_back (pattern_variables lit.pattern) (lits_variables premises) k premise)
+      | inr conclusion ↦ inr conclusion
+    ]
   ];
   only = λ k there. elim (among_cases (pattern_variables lit.pattern) (lits_variables premises) k there) [
     | inl here ↦ among_front (pattern_variables lit.pattern) (flat_map literal_variables literals) k here
@@ -171,12 +171,16 @@ premise_variables problem real number form at k = same_tests (is_among (lits_var
   where
     there : Among problem.forms form
     there = numbered_among problem.forms number form at
+
     is : IsFormOf problem.clauses form
     is = form_is 0 problem.clauses form (subst (λ forms. Among forms form) real.formed there)
+
     clause : IsClause problem.symbols (length problem.files) is.clause
     clause = All-contains (IsClause problem.symbols (length problem.files)) problem.clauses is.clause real.input.each (contains_from problem.clauses is.clause is.there)
+
     below : is_among (lits_variables form.premises) k ≡ true → nat_lt k form.variables ≡ true
     below in_premise = lt-ltb k form.variables (subst (λ n. k < n) (sym is.variables) (literals_below problem.symbols (length is.clause.variables) is.clause.literals k clause.fitting (is.has.only k in_premise)))
+
     above : nat_lt k form.variables ≡ true → is_among (lits_variables form.premises) k ≡ true
     above small = elim (is.has.all k (clause.occurring k (subst (λ n. k < n) is.variables (ltb-true k form.variables small)))) [
       | inl premise ↦ premise

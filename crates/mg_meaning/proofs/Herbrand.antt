@@ -1,6 +1,6 @@
 -- The positive literals of a satisfying set are a Herbrand model.
-use Rattle.std.proofs.Common.{◌≡◌, ℕ, zero, suc, ◌+◌, ◌<◌, Bool, true, false, true≢false, not, ◌&&◌, ◌||◌, List, [], ◌∷◌, ◌++◌, map, length, get_or, Some, Option, slice_get, refl, sym, ap, subst, ◌∙◌, ◌⊎◌, inl, inr, if◌then◌else◌, arith, nat_eq}
-use Rattle.std.specs.List.{list_any, list_all}
+use Rattle.std.proofs.Common.{◌≡◌, ℕ, zero, suc, ◌+◌, Bool, true, false, true≢false, not, ◌||◌, List, [], ◌∷◌, length, Some, slice_get, refl, sym, ap, subst, ◌∙◌, inl, if◌then◌else◌, arith, nat_eq}
+use Rattle.std.specs.List.{list_all}
 use Rattle.std.specs.Option.{option_map_or}
 use Rattle.std.specs.declared.cmp.Ordering.{Ordering}
 use Rattle.std.specs.declared.cmp.Ordering.TheVariants.{Less, Equal, Greater}
@@ -8,9 +8,9 @@ use Rattle.std.specs.Ordering.{is_eq, ordering_then, bool_cmp}
 use Rattle.std.proofs.lemmas.Option.{slice_get-get_or}
 use Rattle.std.proofs.lemmas.Bool.{eq-eqb}
 use Rattle.mg_word.specs.Orders.{word_cmp}
-use Rattle.mg_word.specs.Sets.{same_word, same_lit, holds, is_part, meets}
+use Rattle.mg_word.specs.Sets.{holds, is_part, meets}
 use Rattle.mg_word.specs.Words.{fits, lit_instance, lit_instances, form_instance, numbered}
-use Rattle.mg_word.specs.Forms.{opposite, premises_of, conclusions_of, is_always_true, plain_form, further_form, clause_forms, forms_from, forms_of}
+use Rattle.mg_word.specs.Forms.{premises_of, conclusions_of, is_always_true, plain_form, clause_forms, forms_from}
 use Rattle.mg_word.specs.Facts.{ProblemData, IsProblem}
 use Rattle.mg_word.specs.declared.lit.Lit.{Lit}
 use Rattle.mg_word.specs.declared.lit.PatLit.{PatLit}
@@ -18,12 +18,11 @@ use Rattle.mg_word.specs.declared.clause.Clause.{Clause}
 use Rattle.mg_word.specs.declared.clause.ClauseLit.{ClauseLit}
 use Rattle.mg_word.specs.declared.clause.ClauseLit.TheVariants.{True, False, Lit as Literal}
 use Rattle.mg_word.specs.declared.form.Form.{Form}
-use Rattle.mg_word.specs.declared.form.Inst.{Inst}
 use Rattle.mg_word.proofs.Members.{both_false, and_true, or_false}
-use Rattle.mg_meaning.specs.Truth.{is_atom_of, lit_true, literal_true, clause_true, Ground, makes_true, atoms_of}
+use Rattle.mg_meaning.specs.Truth.{is_atom_of, lit_true, clause_true, Ground, makes_true, atoms_of}
 use Rattle.mg_meaning.specs.Refuting.{IsClauseInstance}
 use Rattle.mg_meaning.specs.Satisfaction.{Satisfies}
-use Rattle.mg_meaning.proofs.Lists.{Among, among_left, among_right, contains_from}
+use Rattle.mg_meaning.proofs.Lists.{Among, among_right, contains_from}
 
 abbrev positive : List ℕ → Lit
 positive word = record { negative = false; word = word }
@@ -37,10 +36,12 @@ atom_held (lit ∷ set) word = by lit.negative (word_cmp lit.word word) (atom_he
     negative_never Less = refl
     negative_never Equal = refl
     negative_never Greater = refl
+
     positive_same : (answer : Ordering) → is_eq (ordering_then answer (bool_cmp false false)) ≡ is_eq answer
     positive_same Less = refl
     positive_same Equal = refl
     positive_same Greater = refl
+
     by : (negative : Bool) (answer : Ordering) → is_atom_of (atoms_of set) word ≡ holds set (positive word)
         → is_atom_of (if negative then atoms_of set else lit.word ∷ atoms_of set) word ≡ (is_eq (ordering_then (word_cmp lit.word word) (bool_cmp negative false)) || holds set (positive word))
     by true answer go = go ∙ sym (ap (λ same. same || holds set (positive word)) (negative_never (word_cmp lit.word word)))
@@ -58,6 +59,7 @@ module _ (set : List Lit) (terms : List (List ℕ)) where
     where
       word : List ℕ
       word = (lit_instance terms lit).word
+
       by : (negative : Bool) → lit.negative ≡ negative
           → (if negative then not (is_atom_of (atoms_of set) (lit_instance terms lit).word) else is_atom_of (atoms_of set) (lit_instance terms lit).word) ≡ false
           → IsMissed (Literal lit ∷ literals)
@@ -122,6 +124,7 @@ herbrand_model set problem real satisfied instance of =
           made = refl;
         }) missed.premises in
         true≢false (sym some ∙ missed.conclusions)
+
     by : (answer : Bool) → makes_true problem.clauses (atoms_of set) instance ≡ answer → answer ≡ true
     by true e = refl
     by false e = absurd (never (sym (ap (λ found. option_map_or (λ (clause : Clause). clause_true (atoms_of set) instance.terms clause.literals) found false) of.is) ∙ e))

@@ -1,16 +1,15 @@
 -- Only one list has exactly the minimal sets.
-use Rattle.std.proofs.Common.{◌≡◌, Bool, true, false, true≢false, ◌&&◌, List, [], ◌∷◌, Contains, ◌↔◌, refl, sym, ap, ap₂, subst, ◌∙◌, ◌⊎◌, inl, inr}
+use Rattle.std.proofs.Common.{◌≡◌, true, true≢false, List, [], ◌∷◌, refl, sym, ap₂, subst, inl, inr}
 use Rattle.std.specs.declared.cmp.Ordering.{Ordering}
 use Rattle.std.specs.declared.cmp.Ordering.TheVariants.{Less, Equal, Greater}
 use Rattle.std.specs.Ordering.{is_lt}
 use Rattle.std.proofs.lemmas.Cmp.{tied_itself}
 use Rattle.mg_word.specs.Orders.{lits_cmp}
 use Rattle.mg_word.specs.OrderLaws.{lits_total}
-use Rattle.mg_word.specs.Sets.{is_rising}
 use Rattle.mg_word.specs.Facts.{ProblemData}
 use Rattle.mg_word.specs.declared.lit.Lit.{Lit}
 use Rattle.mg_word.proofs.Members.{both_true}
-use Rattle.mg_meaning.specs.Minimality.{IsMinimal, is_set_below_first, are_sets_rising, ListsMinimal}
+use Rattle.mg_meaning.specs.Minimality.{is_set_below_first, are_sets_rising, ListsMinimal}
 use Rattle.mg_meaning.proofs.Lists.{Among, among_from, contains_from}
 
 is_less : (answer : Ordering) → is_lt answer ≡ true → answer ≡ Less
@@ -53,8 +52,8 @@ rising_sets_same (a ∷ as') (b ∷ bs) one two f g =
     let here : a ≡ b = first_same a b as' bs one two (f a (inl refl)) (g b (inl refl)) in
     let one' : are_sets_rising (b ∷ as') ≡ true = subst (λ x. are_sets_rising (x ∷ as') ≡ true) here one in
     let rest : as' ≡ bs = rising_sets_same as' bs (both_true (is_set_below_first a as') (are_sets_rising as') one).1 (both_true (is_set_below_first b bs) (are_sets_rising bs) two).1
-        (λ set there. later_too b as' bs set one' there (f set (inr there)))
-        (λ set there. later_too b bs as' set two there (subst (λ x. Among (x ∷ as') set) here (g set (inr there)))) in
+    (λ set there. later_too b as' bs set one' there (f set (inr there)))
+    (λ set there. later_too b bs as' set two there (subst (λ x. Among (x ∷ as') set) here (g set (inr there)))) in
     ap₂ (λ x xs. x ∷ xs) here rest
 
 pub lists_same : (problem : ProblemData) (one two : List (List Lit)) → ListsMinimal one problem → ListsMinimal two problem → one ≡ two

@@ -1,17 +1,16 @@
 -- Trying all parts of a list finds a smaller satisfying set where there is one.
-use Rattle.std.proofs.Common.{◌≡◌, Bool, true, false, true≢false, not, ◌&&◌, cond, List, [], ◌∷◌, filter, All, Contains, IsTrue, ◌↔◌, refl, sym, ap, subst, ◌∙◌, ◌⊎◌, inl, inr}
-use Rattle.std.specs.List.{list_all}
+use Rattle.std.proofs.Common.{◌≡◌, Bool, true, false, true≢false, not, cond, List, [], ◌∷◌, filter, All, ◌↔◌, refl, sym, ap, ◌∙◌, inl, inr}
 use Rattle.std.proofs.lemmas.List.Elements.{All-contains}
 use Rattle.mg_word.specs.Table.{Symbol}
 use Rattle.mg_word.specs.Words.{fits}
-use Rattle.mg_word.specs.Sets.{holds, is_part, is_proper_part, meets}
+use Rattle.mg_word.specs.Sets.{holds, is_part, is_proper_part}
 use Rattle.mg_word.specs.Facts.{ProblemData}
 use Rattle.mg_word.specs.declared.lit.Lit.{Lit}
-use Rattle.mg_word.proofs.Members.{both_true, and_true, not_true, not_false, never_true, holds_cases, holds_first, holds_later, part_from, part_holds, part_of_itself, part_of_part, meets_more, clash_free_part}
+use Rattle.mg_word.proofs.Members.{both_true, and_true, not_true, not_false, never_true, holds_cases, part_from, part_holds, part_of_itself, part_of_part, meets_more, clash_free_part}
 use Rattle.mg_meaning.specs.Instances.{are_literals}
 use Rattle.mg_meaning.specs.Satisfaction.{Satisfies}
 use Rattle.mg_meaning.specs.Minimality.{IsMinimal}
-use Rattle.mg_meaning.specs.Parts.{with_and_without, parts_of, IsSmaller}
+use Rattle.mg_meaning.specs.Parts.{parts_of, IsSmaller}
 use Rattle.mg_meaning.proofs.Lists.{Among, contains_from, among_flat_mapped}
 use Rattle.mg_meaning.proofs.Listings.{among-filter, among_filtered}
 use Rattle.mg_meaning.proofs.Matchings.{holds_from_among, among_from_holds}
@@ -59,12 +58,16 @@ smaller_part problem set part proper satisfied = record {
   where
     own : List Lit
     own = filter (holds part) set
+
     parts : (is_part part set ≡ true) × (not (is_part set part) ≡ true)
     parts = both_true (is_part part set) (not (is_part set part)) proper
+
     inside : is_part (filter (holds part) set) set ≡ true
     inside = part_from (filter (holds part) set) set (λ lit there. holds_from_among set lit (among-filter (holds part) set lit (among_from_holds (filter (holds part) set) lit there)).0)
+
     back : is_part (filter (holds part) set) part ≡ true
     back = part_from (filter (holds part) set) part (λ lit there. (among-filter (holds part) set lit (among_from_holds (filter (holds part) set) lit there)).1)
+
     forth : is_part part (filter (holds part) set) ≡ true
     forth = part_from part (filter (holds part) set) (λ lit there.
         holds_from_among (filter (holds part) set) lit (among_filtered (holds part) set lit (among_from_holds set lit (part_holds part set lit (both_true (is_part part set) (not (is_part set part)) proper).0 there)) there))

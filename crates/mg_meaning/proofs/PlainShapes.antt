@@ -1,10 +1,10 @@
 -- The plain tree from given literals and a given barred set has one shape.
-use Rattle.std.proofs.Common.{◌≡◌, ℕ, ◌<◌, Bool, true, false, true≢false, List, [], ◌∷◌, ◌++◌, refl, sym, ap, ap₂, subst, ◌∙◌, arith}
+use Rattle.std.proofs.Common.{◌≡◌, ℕ, ◌<◌, false, true≢false, List, [], ◌∷◌, ◌++◌, refl, sym, ap, ap₂, subst, ◌∙◌, arith}
 use Rattle.mg_word.specs.Sets.{with_lit}
 use Rattle.mg_word.specs.Facts.{ProblemData}
 use Rattle.mg_word.specs.declared.lit.Lit.{Lit}
 use Rattle.mg_word.specs.declared.form.Inst.{Inst}
-use Rattle.mg_meaning.specs.Violation.{heaviest, weight_of, IsLeast, IsSaturated}
+use Rattle.mg_meaning.specs.Violation.{heaviest, weight_of, IsLeast}
 use Rattle.mg_meaning.specs.PlainTree.{Shape, Shapes, saturated, rejected, split, none, shut, child, extends_in, is_closed_at_once, IsPlain, ArePlain, Plain}
 use Rattle.mg_meaning.proofs.InstOrders.{least_same, least_not_saturated}
 
@@ -74,6 +74,7 @@ heavy_child problem weight held barred inst conclusion conclusions least first o
     kids none are = are
     kids (shut children) are = true≢false (sym are.0 ∙ opened)
     kids (child one children) are = none_below (extends_in one) (one, are.1, refl)
+
     by : (one : Shape) → IsPlain problem weight held barred one → ⊥
     by saturated is = least_not_saturated problem held inst least is
     by (rejected other) is =

@@ -1,16 +1,12 @@
 -- The front of a word that is so many terms, and substitutions that give terms to more variables.
-use Rattle.std.proofs.Common.{◌≡◌, ◌≢◌, ℕ, zero, suc, ◌+◌, ◌<◌, ◌≤◌, Bool, true, false, true≢false, not, ◌&&◌, ◌||◌, List, [], ◌∷◌, ◌++◌, map, length, get_or, take, drop, set, replicate, Option, Some, None, is_some, slice_get, slice_set, slice_index_or, refl, sym, ap, ap₂, subst, ◌∙◌, ◌⊎◌, inl, inr, if◌then◌else◌, arith}
-use Rattle.std.specs.List.{list_all, list_any}
+use Rattle.std.proofs.Common.{◌≡◌, ℕ, zero, suc, ◌+◌, true, false, true≢false, ◌||◌, List, [], ◌∷◌, ◌++◌, length, take, drop, Option, Some, None, is_some, slice_get, slice_set, slice_index_or, refl, sym, ap, ap₂, subst, ◌∙◌, arith}
 use Rattle.std.specs.Option.{option_map, option_map_or, option_and_then, unwrap_or}
-use Rattle.std.proofs.lemmas.Option.{option_and_then_some}
 use Rattle.mg_word.specs.Table.{Symbol}
 use Rattle.mg_word.specs.Words.{are_terms, fits}
-use Rattle.mg_word.specs.Sets.{same_word}
-use Rattle.mg_word.specs.OrderLaws.{words_equal}
 use Rattle.mg_word.specs.Forms.{is_among}
-use Rattle.mg_word.proofs.Members.{both_true, and_true, two_cases}
+use Rattle.mg_word.proofs.Members.{both_true, and_true}
 use Rattle.mg_meaning.specs.Matches.{is_bound, are_terms_bound, terms_of}
-use Rattle.mg_meaning.specs.Matching.{terms_length, bound_at, bound_to}
+use Rattle.mg_meaning.specs.Matching.{terms_length}
 
 -- the front of that length is so many terms
 pub terms_length_fits : (table : List Symbol) (word : List ℕ) (wanted size : ℕ) → terms_length table wanted word ≡ Some size → are_terms table wanted (take size word) ≡ true
@@ -104,6 +100,7 @@ kept_same (x ∷ a) (y ∷ b) c same p q bound =
     later : (xs : List (Option (List ℕ))) (k : ℕ) (one : Option (List ℕ)) → slice_get xs (suc k) ≡ Some one → slice_get (drop 1 xs) k ≡ Some one
     later [] k one e = absurd (let bad : ⊥ = cc in bad)
     later (z ∷ xs) k one e = e
+
     by : (one two : Option (List ℕ)) → is_some one ≡ is_some two → ((term : List ℕ) → one ≡ Some term → slice_get c zero ≡ Some (Some term)) → ((term : List ℕ) → two ≡ Some term → slice_get c zero ≡ Some (Some term)) → one ≡ two
     by None None e f g = refl
     by None (Some t) e f g = absurd (true≢false (sym e))

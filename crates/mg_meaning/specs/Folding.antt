@@ -1,5 +1,5 @@
 -- The pair that a closed split node learns from its children, after the nogoods of complement splitting.
-use Rattle.std.specs.Prelude.{Bool, not, List, [], ◌∷◌, ◌++◌, filter}
+use Rattle.std.specs.Prelude.{not, List, [], ◌∷◌, ◌++◌, filter}
 use Rattle.mg_word.specs.Sets.{holds, set_of}
 use Rattle.mg_word.specs.Words.{complement_of}
 use Rattle.mg_word.specs.declared.lit.Lit.{Lit}

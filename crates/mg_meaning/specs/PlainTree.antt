@@ -1,5 +1,5 @@
 -- The plain search tree, without lemmas and without covering: complement splitting after Bry and Yahya.
-use Rattle.std.specs.Prelude.{◌≡◌, ℕ, ◌+◌, ◌<◌, ◌≤◌, Bool, true, false, ◌||◌, List, [], ◌∷◌, ◌++◌, IsTrue}
+use Rattle.std.specs.Prelude.{◌≡◌, ℕ, ◌+◌, ◌<◌, ◌≤◌, Bool, false, ◌||◌, List, [], ◌∷◌, ◌++◌, IsTrue}
 use Rattle.mg_word.specs.Sets.{holds, with_lit}
 use Rattle.mg_word.specs.Words.{complement_of}
 use Rattle.mg_word.specs.Facts.{ProblemData}
@@ -13,6 +13,7 @@ mutual
     saturated : Shape
     rejected : Inst → Shape
     split : Inst → Shapes → Shape
+
   pub data Shapes : Type 0 where
     none : Shapes
     shut : Shapes → Shapes

@@ -5,7 +5,7 @@ ghost use Rattle.mg_word.specs.Sets.{is_proper_part};
 ghost use Rattle.mg_meaning.specs.Minimality.{IsMinimal};
 ghost use Rattle.mg_meaning.specs.Parts.{with_and_without, parts_of, IsSmaller};
 
-use crate::instances::is_part_of;
+use crate::lits::is_part_of;
 use crate::satisfying::satisfies;
 use mg_word::{Items, Lit, NoMemory, Problem};
 use std::alloc::Global;
@@ -67,12 +67,7 @@ fn is_proper(part: &[Lit], set: &[Lit]) -> bool
 }
 
 // Whether the part is a proper one that satisfies the problem.
-fn is_smaller(
-    alloc: Global,
-    problem: &Problem,
-    part: &[Lit],
-    set: &[Lit],
-) -> Result<bool, NoMemory>
+fn is_smaller(alloc: Global, problem: &Problem, part: &[Lit], set: &[Lit]) -> Result<bool, NoMemory>
     requires { length problem.now.forms < 2 ^ 32 }
     ensures { IfOk result (λ answer. IsTrue answer ↔ IsSmaller problem.now set.now part.now) }
 {

@@ -46,7 +46,8 @@ fn word_fits(symbols: &Symbols, word: &[u32]) -> bool
 fn all_fit(symbols: &Symbols, lits: &[Lit]) -> bool
     ensures { result ≡ are_literals symbols.now lits.now }
 {
-    lits.iter().all(|lit| word_fits(symbols, lit.word.as_slice()))
+    lits.iter()
+        .all(|lit| word_fits(symbols, lit.word.as_slice()))
 }
 
 /// Whether the set satisfies the problem. The numbers of forms fit 32 bits.

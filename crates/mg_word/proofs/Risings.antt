@@ -36,12 +36,12 @@ first_same a b as' bs one two here there =
     elim (holds_cases b bs a here) [
       | inl same ↦ sym same
       | inr later ↦ elim (holds_cases a as' b there) [
-          | inl same ↦ same
-          | inr other ↦
-              let first = both_true (is_below_first a as') (is_rising as') one in
-              let second = both_true (is_below_first b bs) (is_rising bs) two in
-              absurd (less_both_ways a b (below_each a as' b first.0 first.1 other) (below_each b bs a second.0 second.1 later))
-        ]
+        | inl same ↦ same
+        | inr other ↦
+            let first = both_true (is_below_first a as') (is_rising as') one in
+            let second = both_true (is_below_first b bs) (is_rising bs) two in
+            absurd (less_both_ways a b (below_each a as' b first.0 first.1 other) (below_each b bs a second.0 second.1 later))
+      ]
     ]
 
 rest_same : (a : Lit) (as' bs : List Lit) → is_rising (a ∷ as') ≡ true → is_part (a ∷ as') (a ∷ bs) ≡ true → is_part as' bs ≡ true
@@ -64,7 +64,7 @@ rising_same (a ∷ as') (b ∷ bs) one two p q =
     let q' : is_part (a ∷ bs) (a ∷ as') ≡ true = subst (λ x. is_part (x ∷ bs) (a ∷ as') ≡ true) (sym here) q in
     let two' : is_rising (a ∷ bs) ≡ true = subst (λ x. is_rising (x ∷ bs) ≡ true) (sym here) two in
     let rest : as' ≡ bs = rising_same as' bs (both_true (is_below_first a as') (is_rising as') one).1 (both_true (is_below_first b bs) (is_rising bs) two).1
-        (rest_same a as' bs one p') (rest_same a bs as' two' q') in
+    (rest_same a as' bs one p') (rest_same a bs as' two' q') in
     ap₂ (λ x xs. x ∷ xs) here rest
 
 -- the literal itself and the members before
@@ -76,9 +76,11 @@ holds-with_lit (first ∷ rest) lit other = by (lit_cmp lit first) refl (holds-w
     swap true true c = refl
     swap true false c = refl
     swap false b c = refl
+
     twice : (a c : Bool) → (a || c) ≡ (a || (a || c))
     twice true c = refl
     twice false c = refl
+
     by : (answer : Ordering) → lit_cmp lit first ≡ answer → holds (with_lit rest lit) other ≡ (same_lit lit other || holds rest other)
         → holds (placed answer lit first rest (with_lit rest lit)) other ≡ (same_lit lit other || (same_lit first other || holds rest other))
     by Less e go = refl

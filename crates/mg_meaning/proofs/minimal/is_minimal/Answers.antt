@@ -1,5 +1,4 @@
-use Rattle.std.proofs.Common.{◌≡◌, List, All, true, subst, sym, ◌∙◌, arith}
-use Rattle.mg_word.specs.declared.lit.Lit.{Lit}
+use Rattle.std.proofs.Common.{◌≡◌, All, true, subst, ◌∙◌, arith}
 use Rattle.mg_meaning.specs.Parts.{IsSmaller}
 use Rattle.mg_meaning.proofs.PartsTried.{minimal_test}
 use Rattle.mg_meaning.proofs.minimal.is_minimal.Goals as goal

@@ -1,4 +1,4 @@
-use Rattle.std.proofs.Common.{◌≡◌, sym, ◌∙◌}
+use Rattle.std.proofs.Common.{sym}
 use Rattle.mg_meaning.proofs.Answering.{fits_size, fits_none}
 use Rattle.mg_meaning.proofs.satisfying.word_fits.Goals as goal
 
