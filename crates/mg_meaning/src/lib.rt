@@ -22,3 +22,6 @@ pub use least::least_violated;
 pub use matching::{Partial, form_matches};
 pub use minimal::is_minimal;
 pub use satisfying::satisfies;
+
+#[cfg(test)]
+mod tests;
