@@ -1,2 +1,16 @@
+pub mod Bound
+pub mod Deciding
+pub mod Excluding
+pub mod Folding
+pub mod Instances
+pub mod Laws
+pub mod Listing
+pub mod Matches
+pub mod Matching
+pub mod Minimality
+pub mod Parts
+pub mod PlainTree
 pub mod Refuting
+pub mod Satisfaction
 pub mod Truth
+pub mod Violation

@@ -1,7 +1,6 @@
 -- When ground instances of clauses refute a problem, after Herbrand's theorem.
 use Rattle.std.specs.Prelude.{◌≡◌, ℕ, false, List, length, All, Some, slice_get, IsTrue}
 use Rattle.std.specs.List.{list_all}
-use Rattle.mg_word.specs.Table.{Symbol}
 use Rattle.mg_word.specs.Words.{fits}
 use Rattle.mg_word.specs.Facts.{ProblemData}
 use Rattle.mg_word.specs.declared.clause.Clause.{Clause}

@@ -1,5 +1,5 @@
 -- Truth of ground clauses where a list of atoms is what is true, after Herbrand.
-use Rattle.std.specs.Prelude.{ℕ, Bool, true, false, not, List, slice_get, if◌then◌else◌}
+use Rattle.std.specs.Prelude.{ℕ, Bool, true, false, not, List, [], ◌∷◌, slice_get, if◌then◌else◌}
 use Rattle.std.specs.List.{list_any}
 use Rattle.std.specs.Option.{option_map_or}
 use Rattle.mg_word.specs.Sets.{same_word}
@@ -35,3 +35,8 @@ pub record Ground : Type 0 where
 -- the atoms make the instance true
 abbrev pub makes_true : List Clause → List (List ℕ) → Ground → Bool
 makes_true clauses atoms instance = option_map_or (λ clause. clause_true atoms instance.terms clause.literals) (slice_get clauses instance.clause) false
+
+-- the atoms that a set of literals makes true: those of its positive literals
+abbrev pub atoms_of : List Lit → List (List ℕ)
+atoms_of [] = []
+atoms_of (lit ∷ lits) = if lit.negative then atoms_of lits else lit.word ∷ atoms_of lits

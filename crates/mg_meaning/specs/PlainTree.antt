@@ -1,0 +1,60 @@
+-- The plain search tree, without lemmas and without covering: complement splitting after Bry and Yahya.
+use Rattle.std.specs.Prelude.{◌≡◌, ℕ, ◌+◌, ◌<◌, ◌≤◌, Bool, false, ◌||◌, List, [], ◌∷◌, ◌++◌, IsTrue}
+use Rattle.mg_word.specs.Sets.{holds, with_lit}
+use Rattle.mg_word.specs.Words.{complement_of}
+use Rattle.mg_word.specs.Facts.{ProblemData}
+use Rattle.mg_word.specs.declared.lit.Lit.{Lit}
+use Rattle.mg_word.specs.declared.form.Inst.{Inst}
+use Rattle.mg_meaning.specs.Violation.{weight_of, IsLeast, IsSaturated}
+
+-- how a finite search tree goes: what is saturated, rejected and split, and which children are closed at once
+mutual
+  pub data Shape : Type 0 where
+    saturated : Shape
+    rejected : Inst → Shape
+    split : Inst → Shapes → Shape
+
+  pub data Shapes : Type 0 where
+    none : Shapes
+    shut : Shapes → Shapes
+    child : Shape → Shapes → Shapes
+
+-- the number of extensions: one for each split node
+abbrev mutual
+  pub extends_in : Shape → ℕ
+  extends_in saturated = 0
+  extends_in (rejected inst) = 0
+  extends_in (split inst children) = 1 + extends_in_all children
+
+  pub extends_in_all : Shapes → ℕ
+  extends_in_all none = 0
+  extends_in_all (shut children) = extends_in_all children
+  extends_in_all (child shape children) = extends_in shape + extends_in_all children
+
+-- a child is closed at once where its conclusion's complement is held or its conclusion is barred
+abbrev pub is_closed_at_once : List Lit → List Lit → Lit → Bool
+is_closed_at_once held barred conclusion = holds held (complement_of conclusion) || holds barred conclusion
+
+-- the tree from these literals, in path order, and this barred set has that shape; it has none where a heavier instance comes up
+abbrev mutual
+  pub IsPlain : ProblemData → ℕ → List Lit → List Lit → Shape → Type 0
+  IsPlain problem weight held barred saturated = IsSaturated problem held
+  IsPlain problem weight held barred (rejected inst) = IsLeast problem held inst × (inst.conclusions ≡ [])
+  IsPlain problem weight held barred (split inst children) =
+      IsLeast problem held inst × (0 < weight_of inst) × (weight_of inst ≤ weight) × ArePlain problem weight held barred inst.conclusions children
+
+  -- child i holds conclusion i and bars those before it
+  pub ArePlain : ProblemData → ℕ → List Lit → List Lit → List Lit → Shapes → Type 0
+  ArePlain problem weight held barred [] none = Unit {0}
+  ArePlain problem weight held barred (conclusion ∷ conclusions) (shut children) =
+      IsTrue (is_closed_at_once held barred conclusion) × ArePlain problem weight held (with_lit barred conclusion) conclusions children
+  ArePlain problem weight held barred (conclusion ∷ conclusions) (child shape children) =
+      (is_closed_at_once held barred conclusion ≡ false) × IsPlain problem weight (held ++ conclusion ∷ []) barred shape
+      × ArePlain problem weight held (with_lit barred conclusion) conclusions children
+  ArePlain problem weight held barred [] (shut children) = ⊥
+  ArePlain problem weight held barred [] (child shape children) = ⊥
+  ArePlain problem weight held barred (conclusion ∷ conclusions) none = ⊥
+
+-- the plain tree from these literals and this barred set has so many extensions
+abbrev pub Plain : ProblemData → ℕ → List Lit → List Lit → ℕ → Type 0
+Plain problem weight held barred count = (shape : Shape) × IsPlain problem weight held barred shape × (extends_in shape ≡ count)
