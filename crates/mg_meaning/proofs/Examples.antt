@@ -1,8 +1,11 @@
 -- Small problems worked by hand, against the definitions.
-use Rattle.std.proofs.Common.{◌≡◌, ℕ, ◌≤◌, true, false, true≢false, List, [], ◌∷◌, length, None, Some, Contains, IsTrue, ◌↔◌, refl, sym, subst, arith, ◌&&◌, filter}
+use Rattle.std.proofs.Common.{◌≡◌, ℕ, zero, suc, add-one, slice_index_or, Bool, not, ◌<◌, ◌≤◌, true, false, true≢false, List, [], ◌∷◌, length, None, Some, Contains, IsTrue, ◌↔◌, refl, sym, subst, arith, ◌&&◌, filter}
 use Rattle.std.specs.List.{list_all, flat_map}
 use Rattle.std.proofs.lemmas.List.Elements.{All-nil, All-cons}
 use Rattle.mg_word.specs.Table.{Symbol}
+use Rattle.std.specs.List.Sorted.{IsSorted}
+use Rattle.std.specs.Ordering.{is_lt}
+use Rattle.mg_word.specs.SymbolOrder.{symbol_cmp}
 use Rattle.mg_word.specs.Forms.{forms_of, is_among}
 use Rattle.mg_word.specs.Facts.{ProblemData, IsProblem, IsClause, literal_fits, literal_variables, are_choices}
 use Rattle.mg_word.specs.declared.symbol.Kind.TheVariants.{Word}
@@ -82,6 +85,36 @@ clause_of_one table literals fine there few = record {
   variables = omega arith;
 }
 
+-- no symbol of the table stands after the next
+stands_in_order : List Symbol → Bool
+stands_in_order [] = true
+stands_in_order (symbol ∷ []) = true
+stands_in_order (symbol ∷ next ∷ table) = not (is_lt (symbol_cmp next symbol)) && stands_in_order (next ∷ table)
+
+each_in_order : (table : List Symbol) → stands_in_order table ≡ true → (k : ℕ) (d : Symbol) → suc k < length table → is_lt (symbol_cmp (slice_index_or table (suc k) d) (slice_index_or table k d)) ≡ false
+unfolding stands_in_order
+each_in_order [] test k d below = absurd (omega arith)
+each_in_order (symbol ∷ []) test k d below = absurd (omega arith)
+each_in_order (symbol ∷ next ∷ table) test zero d below = untrue (is_lt (symbol_cmp next symbol)) (left_of (not (is_lt (symbol_cmp next symbol))) (stands_in_order (next ∷ table)) test)
+  where
+    untrue : (b : Bool) → not b ≡ true → b ≡ false
+    untrue true is = sym is
+    untrue false is = refl
+
+    left_of : (a b : Bool) → (a && b) ≡ true → a ≡ true
+    left_of true b is = refl
+    left_of false b is = is
+each_in_order (symbol ∷ next ∷ table) test (suc k) d below = each_in_order (next ∷ table) (right_of (not (is_lt (symbol_cmp next symbol))) (stands_in_order (next ∷ table)) test) k d (omega arith)
+  where
+    right_of : (a b : Bool) → (a && b) ≡ true → b ≡ true
+    right_of true b is = is
+    right_of false b is = absurd (true≢false (sym is))
+
+-- a table whose symbols stand in order is sorted
+sorted_table : (table : List Symbol) → stands_in_order table ≡ true → IsSorted symbol_cmp table
+sorted_table table test k d above below =
+    subst (λ next. is_lt (symbol_cmp (slice_index_or table next d) (slice_index_or table k d)) ≡ false) (sym (add-one k)) (each_in_order table test k d (omega arith))
+
 -- what is listed alone is the least violated instance, and where nothing is listed the branch is saturated
 least_alone : (problem : ProblemData) → IsProblem problem → (held : List Lit) (inst : Inst) → violated_in problem held ≡ inst ∷ [] → IsLeast problem held inst
 least_alone problem real held inst only =
@@ -102,6 +135,7 @@ abbrev q : Lit
 q = positive (1 ∷ [])
 
 two_real : IsProblem two_sets
+unfolding stands_in_order
 two_real = record {
   input = record {
     named = refl;
@@ -115,6 +149,9 @@ two_real = record {
   };
   formed = refl;
   restricted = refl;
+  ordered = sorted_table two_sets.symbols refl;
+  light = refl;
+  few_forms = omega arith;
 }
 
 both_satisfy : Satisfies (p ∷ q ∷ []) two_sets
@@ -215,6 +252,7 @@ abbrev twice : ProblemData
 twice = problem_of (word_symbol 112 0 ∷ []) (clause_of (plus (Sym 0 ∷ []) ∷ plus (Sym 0 ∷ []) ∷ []) [] [] ∷ [])
 
 twice_real : IsProblem twice
+unfolding stands_in_order
 twice_real = record {
   input = record {
     named = refl;
@@ -226,6 +264,9 @@ twice_real = record {
   };
   formed = refl;
   restricted = refl;
+  ordered = sorted_table twice.symbols refl;
+  light = refl;
+  few_forms = omega arith;
 }
 
 abbrev twice_inst : Inst
@@ -250,6 +291,7 @@ endless = problem_of (word_symbol 97 0 ∷ word_symbol 102 1 ∷ word_symbol 112
     (clause_of (plus (Sym 2 ∷ Sym 0 ∷ []) ∷ []) [] [] ∷ clause_of (minus (Sym 2 ∷ Var 0 ∷ []) ∷ plus (Sym 2 ∷ Sym 1 ∷ Var 0 ∷ []) ∷ []) ((88 ∷ []) ∷ []) [] ∷ [])
 
 endless_real : IsProblem endless
+unfolding stands_in_order
 endless_real = record {
   input = record {
     named = refl;
@@ -263,6 +305,9 @@ endless_real = record {
   };
   formed = refl;
   restricted = refl;
+  ordered = sorted_table endless.symbols refl;
+  light = refl;
+  few_forms = omega arith;
 }
 
 abbrev first_inst : Inst
