@@ -1,3 +1,4 @@
 pub mod Entries
 pub mod Spellings
 pub mod Different
+pub mod Sorting

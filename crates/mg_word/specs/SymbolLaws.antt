@@ -1,5 +1,5 @@
 -- The order of symbols is total, and tells apart what is different.
-use Rattle.std.specs.Prelude.{◌≡◌, ℕ, Bool, true, Decides}
+use Rattle.std.specs.Prelude.{◌≡◌, Bool, true}
 use Rattle.std.proofs.Common.{refl, sym, ◌∙◌, ap}
 use Rattle.std.specs.declared.cmp.Ordering.TheVariants.{Equal}
 use Rattle.std.specs.Ordering.{nat_cmp, is_eq, eq_by_cmp, on, then_cmp}

@@ -226,11 +226,7 @@ fn push_pattern(into: &mut Vec<u8>, symbols: &Symbols, pattern: &Pattern) -> Res
 
 /// Appends a literal with its variables printed as `X1`, `X2`, .. as it is spelled. After an error the
 /// buffer may hold a part of it.
-pub fn push_pattern_lit(
-    into: &mut Vec<u8>,
-    symbols: &Symbols,
-    lit: &PatLit,
-) -> Result<(), NoMemory>
+pub fn push_pattern_lit(into: &mut Vec<u8>, symbols: &Symbols, lit: &PatLit) -> Result<(), NoMemory>
     requires { (variables : ℕ) × IsTrue (pattern_fits symbols.now variables lit.now.pattern) }
     ensures { OnOk result (into.new.items ≡ into.old.items ++ spelling.spelled_pattern_lit symbols.now lit.now) }
 {

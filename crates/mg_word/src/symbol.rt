@@ -145,6 +145,8 @@ impl Symbols {
     fn sorted_entries(&self) -> Result<Vec<Entry>, NoMemory>
         ensures ordered { IfOk result (λ entries. IsSorted symbol_cmp (map entry_seen entries.items)) }
         ensures permuted { IfOk result (λ entries. IsPermutation self.now (map entry_seen entries.items)) }
+        ensures different { IfOk result (λ entries. AllPairs (λ a b. a ≢ b) (map entry_seen entries.items)) }
+        ensures small { IfOk result (λ entries. length entries.items < 2 ^ 32) }
     {
         let mut entries = Vec::with_capacity(self.alloc, self.entries.len())?;
         for entry in self.entries.as_slice() {
@@ -162,7 +164,7 @@ impl Symbols {
     {
         let mut set = IndexSet::with_capacity(alloc, entries.len())?;
         for entry in entries {
-            set.insert(entry)?;
+            set.insert_full(entry)?;
         }
         Ok(Symbols {
             alloc,
