@@ -19,26 +19,26 @@ use Rattle.proof_tree.specs.DocText.{form_line, line_text, header, root_word, en
 pub data Place : Type 0 where
   at_header : Place
   at_root : Place
-  in_tree : (open : ℕ) → Place
+  in_tree : (wanted : ℕ) → Place
 
 -- the trees that are still to come behind these lines, where so many were to come before them
 abbrev pub trees_left : List Form → ℕ → List TreeLine → Option ℕ
-trees_left forms open [] = Some open
+trees_left forms wanted [] = Some wanted
 trees_left forms zero (line ∷ lines) = None
-trees_left forms (suc open) (line ∷ lines) = trees_left forms (length (conclusions_at forms line) + open) lines
+trees_left forms (suc wanted) (line ∷ lines) = trees_left forms (length (conclusions_at forms line) + wanted) lines
 
 -- lines that a root's tree may begin with, and the trees that are still to come behind them
-pub record AreFirst (problem : ProblemData) (lines : List TreeLine) (open : ℕ) : Type 0 where
+pub record AreFirst (problem : ProblemData) (lines : List TreeLine) (wanted : ℕ) : Type 0 where
   pub fitting : All (LineFits problem.symbols) lines
   pub known : All (IsKnown problem.forms) lines
   pub forms_alone : All (λ line. is_form_line line ≡ true) lines
-  pub left : trees_left problem.forms 1 lines ≡ Some open
+  pub left : trees_left problem.forms 1 lines ≡ Some wanted
 
 -- the lines are those of a document up to that place
 abbrev pub IsFront : ProblemData → List (List ℕ) → Place → Type 0
 IsFront problem lines at_header = lines ≡ []
 IsFront problem lines at_root = lines ≡ header ∷ []
-IsFront problem lines (in_tree open) = (tree : List TreeLine) × AreFirst problem tree open × (lines ≡ header ∷ root_word ∷ map (line_text problem.symbols) tree)
+IsFront problem lines (in_tree wanted) = (tree : List TreeLine) × AreFirst problem tree wanted × (lines ≡ header ∷ root_word ∷ map (line_text problem.symbols) tree)
 
 -- the list is so many terms one after another, in prefix order by the arities of its own symbols
 abbrev pub are_own_terms : ℕ → List Symbol → Bool
@@ -105,7 +105,7 @@ LineFault problem at_root line Syntax = (is_later_line line ≡ false) × (line 
 LineFault problem at_root line kind = ⊥
 LineFault problem (in_tree zero) line Rest = Unit {0}
 LineFault problem (in_tree zero) line kind = ⊥
-LineFault problem (in_tree (suc open)) line kind = TreeLineFault problem line kind
+LineFault problem (in_tree (suc wanted)) line kind = TreeLineFault problem line kind
 
 abbrev pub is_no_feed : ℕ → Bool
 is_no_feed byte = not (nat_eq byte 10)

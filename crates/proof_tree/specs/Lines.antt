@@ -46,8 +46,8 @@ pub record IsTreeText (problem : ProblemData) (text : List ℕ) (lines : List Tr
   pub spelled : ended (map (line_text problem.symbols) lines) ≡ text
 
 -- the tree that a text has so far, where these lines are still to come
-pub record IsTreeFront (problem : ProblemData) (text rest : List ℕ) (lines : List TreeLine) (open : ℕ) : Type 0 where
-  pub first : AreFirst problem lines open
+pub record IsTreeFront (problem : ProblemData) (text rest : List ℕ) (lines : List TreeLine) (wanted : ℕ) : Type 0 where
+  pub first : AreFirst problem lines wanted
   pub split : text ≡ ended (map (line_text problem.symbols) lines) ++ rest
   pub only : (all : List TreeLine) → IsTreeText problem text all → (more : List TreeLine) × (lines ++ more ≡ all) × (ended (map (line_text problem.symbols) more) ≡ rest)
 
@@ -75,12 +75,12 @@ IsRefused forms number unknown heavy NoMemory = ⊥
 -- the first fault of the text of a tree that may begin so, where two lines are before it
 pub record IsTreeFault (problem : ProblemData) (text : List ℕ) (number : ℕ) (kind : DocKind) : Type 0 where
   pub lines : List TreeLine
-  pub open : ℕ
-  pub first : AreFirst problem lines open
+  pub wanted : ℕ
+  pub first : AreFirst problem lines wanted
   pub rest : List ℕ
   pub split : text ≡ ended (map (line_text problem.symbols) lines) ++ rest
   pub number_is : number ≡ length lines + 3
-  pub fault : FaultAt problem (in_tree open) rest kind
+  pub fault : FaultAt problem (in_tree wanted) rest kind
 
 abbrev pub NoTree : ProblemData → List ℕ → Type 0
 NoTree problem text = (lines : List TreeLine) → IsTreeText problem text lines → ⊥

@@ -28,6 +28,13 @@ pub record IsRaw (bytes : List ℕ) (raw : Raw) (symbol : Symbol) : Type 0 where
   pub name : IsNameAt (drop raw.start bytes) symbol.kind symbol.name rest
   pub arity : raw.arity ≡ min symbol.arity (2 ^ 64 - 1)
 
+abbrev pub no_raw : Raw
+no_raw = record { start = 0; arity = 0 }
+
+-- the symbol with an argument more
+abbrev pub raised_raw : Raw → Raw
+raised_raw raw = record { start = raw.start; arity = min (raw.arity + 1) (2 ^ 64 - 1) }
+
 abbrev pub AreRaws : List ℕ → List Raw → List Symbol → Type 0
 AreRaws bytes [] [] = Unit {0}
 AreRaws bytes [] (symbol ∷ symbols) = ⊥
@@ -37,12 +44,12 @@ AreRaws bytes (raw ∷ raws) (symbol ∷ symbols) = IsRaw bytes raw symbol × Ar
 -- a symbol whose bracket is open, with the arguments that it has so far, and what stands left of it in its own bracket
 pub record Level : Type 0 where
   pub left : List Symbol
-  pub open : Symbol
+  pub head : Symbol
 
 -- the symbols that were read, where the last are within the innermost bracket
 abbrev pub flat : List Level → List Symbol → List Symbol
 flat [] current = current
-flat (level ∷ levels) current = flat levels (level.left ++ level.open ∷ current)
+flat (level ∷ levels) current = flat levels (level.left ++ level.head ∷ current)
 
 -- the indices of the symbols with open brackets, the innermost first
 abbrev pub places : List Level → List ℕ
@@ -56,8 +63,8 @@ raised more symbol = record { name = symbol.name; arity = symbol.arity + more; k
 -- the whole term, where each bracket has so many arguments after the present one
 abbrev pub plugged : List Level → List ℕ → List Symbol → List Symbol
 plugged [] counts symbols = symbols
-plugged (level ∷ levels) [] symbols = plugged levels [] (level.left ++ level.open ∷ symbols)
-plugged (level ∷ levels) (more ∷ counts) symbols = plugged levels counts (level.left ++ raised (suc more) level.open ∷ symbols)
+plugged (level ∷ levels) [] symbols = plugged levels [] (level.left ++ level.head ∷ symbols)
+plugged (level ∷ levels) (more ∷ counts) symbols = plugged levels counts (level.left ++ raised (suc more) level.head ∷ symbols)
 
 abbrev pub total : List ℕ → ℕ
 total [] = 0

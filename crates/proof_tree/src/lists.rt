@@ -74,20 +74,20 @@ pub fn read_list(
             &mut buffers.opens,
             &mut buffers.name,
         )?;
-        let Some(behind) = taken else {
+        let Some(end) = taken else {
             return Ok(None);
         };
         add_term(alloc, rest, symbols, buffers, &mut list)?;
-        let [first, after @ ..] = behind else {
+        let behind = skip(rest, end);
+        let [first, ..] = behind else {
             return Ok(None);
         };
-        if *first == b',' {
-            rest = skip(behind, 1);
-            continue;
-        }
-        if *first != b']' || !after.is_empty() {
+        if *first != b',' {
+            if *first == b']' && behind.len() == 1 {
+                return Ok(Some(list));
+            }
             return Ok(None);
         }
-        return Ok(Some(list));
+        rest = skip(behind, 1);
     }
 }

@@ -1,13 +1,14 @@
 //! Names of symbols: one at the front of a text, without its quotes and escapes.
 
-ghost use Rattle.std.specs.Prelude.{◌≡◌, ℕ, ◌≤◌, ◌⊎◌, ◌∷◌, List, IfOk, MatchOption, Some, None, drop, length, true};
+ghost use Rattle.std.specs.Prelude.{◌≡◌, ℕ, ◌≤◌, ◌⊎◌, ◌∷◌, List, IfOk, MatchOption, Some, None, drop, length, true, nat_eq, ◌&&◌};
+ghost use Rattle.std.specs.List.{list_all};
 ghost use Rattle.mg_word.specs.Facts as facts;
 ghost use Rattle.mg_word.specs.Spelling as spelling;
 ghost use Rattle.proof_tree.specs.Names.{IsNameAt, IsOnlyName, IsQuotedAt, IsOnlyQuoted};
 ghost use Rattle.proof_tree.specs.Names as names;
 
 use crate::slices::{
-    digits_length, front, is_digit, is_lower_letter, is_word_byte, skip, starts, word_length,
+    digits_length, front, is_digit, is_lower_letter, is_word_byte, skip, word_length,
 };
 use mg_word::{Kind, NoMemory};
 
@@ -100,6 +101,25 @@ fn take_word<'a>(bytes: &'a [u8], name: &mut Vec<u8>) -> Result<&'a [u8], NoMemo
     Ok(skip(bytes, count))
 }
 
+// Whether digits have no leading zero, unless they are 0.
+fn is_plain_number(digits: &[u8]) -> bool
+    requires { list_all facts.is_digit digits.now ≡ true }
+    ensures { result ≡ facts.is_plain_number digits.now }
+{
+    match digits {
+        [] => false,
+        [_] => true,
+        [first, ..] => b'1' <= *first,
+    }
+}
+
+// Whether a name that stands between such quotes is to be written without them.
+fn may_be_bare(quote: u8, name: &[u8]) -> bool
+    ensures { result ≡ (nat_eq quote 39 && spelling.is_lower_word name.now) }
+{
+    quote == b'\'' && is_lower_word(name)
+}
+
 // A plain number at the front of a text that begins with a digit.
 fn take_integer<'a>(
     bytes: &'a [u8],
@@ -113,7 +133,10 @@ fn take_integer<'a>(
     let count = digits_length(bytes);
     let digits = front(bytes, count);
     let rest = skip(bytes, count);
-    if (starts(bytes, b"0") && count > 1) || !ends_name(rest) {
+    if !is_plain_number(digits) {
+        return Ok(None);
+    }
+    if !ends_name(rest) {
         return Ok(None);
     }
     name.clear();
@@ -136,7 +159,10 @@ fn take_between<'a>(
     let Some(rest) = take_quoted(skip(bytes, 1), quote, name)? else {
         return Ok(None);
     };
-    if !ends_name(rest) || (quote == b'\'' && is_lower_word(name)) {
+    if !ends_name(rest) {
+        return Ok(None);
+    }
+    if may_be_bare(quote, name) {
         return Ok(None);
     }
     Ok(Some(rest))

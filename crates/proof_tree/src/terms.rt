@@ -1,6 +1,6 @@
 //! Terms: one at the front of a text, without recursion on its depth.
 
-ghost use Rattle.std.specs.Prelude.{◌≡◌, ℕ, ◌≤◌, List, IfOk, MatchBool, MatchOption, IfSome, length, slice_get, Some};
+ghost use Rattle.std.specs.Prelude.{◌≡◌, ℕ, ◌≤◌, ◌<◌, ◌∷◌, List, IfOk, MatchBool, MatchOption, length, drop, slice_get, slice_set, slice_index_or, Some};
 ghost use Rattle.mg_word.specs.Table.{Symbol};
 ghost use Rattle.proof_tree.specs.Terms as terms;
 ghost use Rattle.proof_tree.specs.Lists.{AreNumbers};
@@ -8,7 +8,7 @@ ghost use Rattle.proof_tree.specs.DocFaults.{IsSymbolOf, HasUnknown, AllKnown};
 ghost use Rattle.tree_checker.specs.Docs.{most_symbols};
 
 use crate::names::take_name;
-use crate::slices::{skip, starts};
+use crate::slices::skip;
 use mg_word::{Kind, NoMemory, Symbols};
 use std::alloc::Global;
 
@@ -55,70 +55,96 @@ fn ends_term(bytes: &[u8]) -> bool
     }
 }
 
-// Behind a finished argument: whether another one follows, and what is behind the comma or the last bracket.
-fn close<'a>(
-    rest: &'a [u8],
+// Behind a finished argument: whether another one follows, and where the text goes on.
+fn close(
+    bytes: &[u8],
+    start: usize,
     raws: &mut Vec<Raw>,
     opens: &mut Vec<usize>,
-) -> Result<Option<(bool, &'a [u8])>, NoMemory>
-    ghost bytes: { List ℕ }
-    requires { terms.AfterArgument bytes raws.old.items opens.old.items rest.now }
-    ensures { IfOk result (λ found. MatchOption found (terms.NoTerm bytes) (λ found. MatchBool found.0
-        (terms.AtArgument bytes raws.new.items opens.new.items found.1.now)
-        (terms.IsRawTerm bytes raws.new.items found.1.now))) }
+) -> Result<Option<(bool, usize)>, NoMemory>
+    requires within { start ≤ length bytes.now }
+    requires after { terms.AfterArgument bytes.now raws.old.items opens.old.items (drop start bytes.now) }
+    ensures { IfOk result (λ found. MatchOption found (terms.NoTerm bytes.now) (λ found. (start ≤ found.1) × (found.1 ≤ length bytes.now) × MatchBool found.0
+        (terms.AtArgument bytes.now raws.new.items opens.new.items (drop found.1 bytes.now))
+        (terms.IsRawTerm bytes.now raws.new.items (drop found.1 bytes.now)))) }
 {
-    let mut rest = rest;
-    while let Some(open) = opens.pop() {
-        raws[open].arity = raws[open].arity.saturating_add(1);
-        let [first, ..] = rest else {
-            return Ok(None);
-        };
-        let behind = skip(rest, 1);
-        if *first == b',' {
-            opens.push(open)?;
-            return Ok(Some((true, behind)));
-        }
-        if *first != b')' {
+    let mut at = start;
+    while let Some(level) = opens.pop() {
+        raise(raws, level);
+        if at >= bytes.len() {
             return Ok(None);
         }
-        rest = behind;
+        let byte = bytes[at];
+        at += 1;
+        if byte == b',' {
+            opens.push(level)?;
+            return Ok(Some((true, at)));
+        }
+        if byte != b')' {
+            return Ok(None);
+        }
     }
-    if !ends_term(rest) {
+    if !ends_term(skip(bytes, at)) {
         return Ok(None);
     }
-    Ok(Some((false, rest)))
+    Ok(Some((false, at)))
 }
 
-/// What is behind the term at the front of the text. Its symbols are left in the buffer.
-pub fn take_term<'a>(
-    bytes: &'a [u8],
+// Counts an argument more of the symbol with that index.
+fn raise(raws: &mut Vec<Raw>, index: usize)
+    requires { index < length raws.old.items }
+    ensures { raws.new.items ≡ slice_set raws.old.items index (terms.raised_raw (slice_index_or raws.old.items index terms.no_raw)) }
+{
+    let raw = raws[index];
+    raws[index] = Raw {
+        start: raw.start,
+        arity: raw.arity.saturating_add(1),
+    };
+}
+
+/// Where the term at the front of the text ends. Its symbols are left in the buffer.
+pub fn take_term(
+    bytes: &[u8],
     raws: &mut Vec<Raw>,
     opens: &mut Vec<usize>,
     name: &mut Vec<u8>,
-) -> Result<Option<&'a [u8]>, NoMemory>
-    ensures { IfOk result (λ found. MatchOption found (terms.NoTerm bytes.now) (λ rest. terms.IsRawTerm bytes.now raws.new.items rest.now)) }
+) -> Result<Option<usize>, NoMemory>
+    ensures { IfOk result (λ found. MatchOption found (terms.NoTerm bytes.now) (λ end. (end ≤ length bytes.now) × terms.IsRawTerm bytes.now raws.new.items (drop end bytes.now))) }
 {
     raws.clear();
     opens.clear();
-    let mut rest = bytes;
+    let mut at = 0;
     loop {
-        let start = bytes.len() - rest.len();
-        let Some((kind, behind)) = take_name(rest, name)? else {
+        let Some((kind, behind)) = take_name(skip(bytes, at), name)? else {
             return Ok(None);
         };
-        raws.push(Raw { start, arity: 0 })?;
-        if kind == Kind::Word && starts(behind, b"(") {
+        raws.push(Raw {
+            start: at,
+            arity: 0,
+        })?;
+        at = bytes.len() - behind.len();
+        if opens_bracket(kind, behind) {
             opens.push(raws.len() - 1)?;
-            rest = skip(behind, 1);
+            at += 1;
             continue;
         }
-        let Some((more, after)) = close(behind, raws, opens)? else {
+        let Some((more, after)) = close(bytes, at, raws, opens)? else {
             return Ok(None);
         };
         if !more {
             return Ok(Some(after));
         }
-        rest = after;
+        at = after;
+    }
+}
+
+// Whether the bracket of a name of that kind is opened here.
+fn opens_bracket(kind: Kind, bytes: &[u8]) -> bool
+    ensures { MatchBool result ((kind ≡ Kind.Word) × ((rest : List ℕ) × (bytes.now ≡ 40 ∷ rest))) ((kind ≡ Kind.Word) → (rest : List ℕ) → bytes.now ≡ 40 ∷ rest → ⊥) }
+{
+    match bytes {
+        [] => false,
+        [first, ..] => kind == Kind::Word && *first == b'(',
     }
 }
 
