@@ -5,3 +5,8 @@ pub mod Cuts
 pub mod TermSteps
 pub mod RawTerms
 pub mod TermReading
+pub mod LookUps
+pub mod Decimals
+pub mod BareLines
+pub mod Verdicts
+pub mod Listing

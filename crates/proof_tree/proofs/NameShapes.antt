@@ -240,3 +240,8 @@ none_empty k n r is = by (shapes [] k n r is)
     by (inl (inr so)) = true≢false (sym (plain_first [] k n r so))
     by (inr (inl so)) = let same = so.text in cc
     by (inr (inr so)) = let same = so.text in cc
+
+-- a name is written as at least one byte
+pub no_empty_name : (bytes : List ℕ) (kind : Kind) (name rest : List ℕ) → IsNameAt bytes kind name rest → 1 ≤ length bytes
+no_empty_name [] kind name rest is = absurd (none_empty kind name rest is)
+no_empty_name (byte ∷ bytes) kind name rest is = omega arith

@@ -1,5 +1,6 @@
 -- The reading of a term, step by step: its text with what its buffers hold.
-use Rattle.std.proofs.Common.{◌≡◌, ℕ, zero, suc, ◌+◌, ◌-◌, ◌≤◌, ◌<◌, Bool, true, false, List, [], ◌∷◌, ◌++◌, length, drop, reverse, slice_index_or, slice_set, refl, sym, ap, ◌∙◌, subst, length-append, append_assoc, arith}
+use Rattle.std.proofs.Common.{◌≡◌, ℕ, zero, suc, ◌+◌, ◌-◌, ◌≤◌, ◌<◌, Bool, true, false, List, [], ◌∷◌, ◌++◌, length, drop, reverse, slice_index_or, slice_set, refl, sym, ap, ◌∙◌, subst, length-append, length-drop, append_assoc, arith}
+use Rattle.std.proofs.lemmas.List.{drop-drop}
 use Rattle.mg_word.specs.Table.{Symbol, symbol_of}
 use Rattle.mg_word.specs.declared.symbol.Kind.{Kind}
 use Rattle.mg_word.specs.declared.symbol.Kind.TheVariants.{Word}
@@ -121,3 +122,9 @@ module _ (bytes : List ℕ) (raws : List Raw) (opens : List ℕ) (at : ℕ) (kin
         };
         reached = step bytes so.levels so.current (opening ∷ so.levels) [] (open_step so.levels so.current (drop at bytes) inside name only) so.reached;
       }
+
+-- what is behind an opening bracket
+pub behind_bracket : (bytes behind inside : List ℕ) (at : ℕ) → drop at bytes ≡ behind → behind ≡ 40 ∷ inside → (drop (at + 1) bytes ≡ inside) × (at + 1 ≤ length bytes)
+behind_bracket bytes behind inside at is opens =
+    let whole : drop at bytes ≡ 40 ∷ inside = is ∙ opens in
+    (sym (drop-drop 1 at bytes) ∙ ap (drop 1) whole, omega (arith, ap length whole, length-drop at bytes))

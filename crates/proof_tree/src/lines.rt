@@ -1,8 +1,8 @@
 //! The lines of a text, without those that begin with `%`.
 
-ghost use Rattle.std.specs.Prelude.{◌≡◌, MatchResult};
+ghost use Rattle.std.specs.Prelude.{◌≡◌, MatchResult, true};
 ghost use Rattle.proof_tree.specs.DocText.{bare};
-ghost use Rattle.proof_tree.specs.DocFaults.{BeginsWithLine};
+ghost use Rattle.proof_tree.specs.DocFaults.{BeginsWithLine, has_no_feed};
 ghost use Rattle.proof_tree.specs.Lines.{EndsSo};
 
 use crate::slices::{front, line_length, skip, starts};
@@ -23,17 +23,27 @@ pub fn next_line(bytes: &[u8]) -> Result<(&[u8], &[u8]), TextEnd>
     let mut rest = bytes;
     loop {
         let count = line_length(rest);
-        let is_passed = starts(rest, b"%");
         if count == rest.len() {
-            if count == 0 || is_passed {
-                return Err(TextEnd::Whole);
-            }
-            return Err(TextEnd::Unended);
+            return Err(text_end(rest));
         }
         let after = skip(rest, count + 1);
-        if !is_passed {
+        if !starts(rest, b"%") {
             return Ok((front(rest, count), after));
         }
         rest = after;
     }
+}
+
+// How a text without a line feed ends.
+fn text_end(bytes: &[u8]) -> TextEnd
+    requires { has_no_feed bytes.now ≡ true }
+    ensures { EndsSo (bare bytes.now) result }
+{
+    if bytes.is_empty() {
+        return TextEnd::Whole;
+    }
+    if starts(bytes, b"%") {
+        return TextEnd::Whole;
+    }
+    TextEnd::Unended
 }

@@ -39,12 +39,13 @@ fn add_term(
         &mut buffers.name,
         &mut buffers.numbers,
     )?;
-    list.has_unknown = list.has_unknown || !known;
-    list.has_heavy = list.has_heavy || buffers.raws.len() > MOST_SYMBOLS;
-    if !list.has_unknown && !list.has_heavy {
-        let word = Word::new(Vec::from_slice(alloc, &buffers.numbers)?);
-        list.words.push(word)?;
+    list.has_unknown = list.has_unknown | !known;
+    list.has_heavy = list.has_heavy | (buffers.raws.len() > MOST_SYMBOLS);
+    if list.has_unknown | list.has_heavy {
+        return Ok(());
     }
+    let word = Word::new(Vec::from_slice(alloc, &buffers.numbers)?);
+    list.words.push(word)?;
     Ok(())
 }
 

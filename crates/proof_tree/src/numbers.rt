@@ -1,26 +1,41 @@
 //! Numbers of forms: one at the front of a text.
 
-ghost use Rattle.std.specs.Prelude.{◌≡◌, ℕ, ◌<◌, List, MatchOption, drop, length, take, true};
+ghost use Rattle.std.specs.Prelude.{◌≡◌, ℕ, List, MatchOption, true};
 ghost use Rattle.std.specs.List.{list_all};
-ghost use Rattle.std.specs.Fmt.{decimal};
 ghost use Rattle.mg_word.specs.Facts as facts;
-ghost use Rattle.proof_tree.specs.Numbers.{IsNumberAt, IsOnlyNumber, IsValue};
+ghost use Rattle.proof_tree.specs.Numbers.{IsNumberAt, IsOnlyNumber, IsValue, leads_with_zero};
 
-use crate::slices::{digits_length, front, skip, starts};
+use crate::slices::{digits_length, front, skip};
 
 // The number that digits are the spelling of.
 fn value_of(digits: &[u8]) -> Option<u32>
     requires { list_all facts.is_digit digits.now ≡ true }
     ensures { MatchOption result ((number : ℕ) → IsValue digits.now number → ⊥) (λ number. IsValue digits.now number) }
 {
-    if digits.is_empty() || (digits.len() > 1 && starts(digits, b"0")) || digits.len() > 10 {
+    if digits.is_empty() {
+        return None;
+    }
+    if has_leading_zero(digits) {
         return None;
     }
     let mut value: u64 = 0;
     for digit in digits {
         value = 10 * value + u64::from(*digit - b'0');
+        if value >= 1 << 32 {
+            return None;
+        }
     }
-    u32::try_from(value).ok()
+    Some(value as u32)
+}
+
+// Whether a digit stands behind a leading zero.
+fn has_leading_zero(digits: &[u8]) -> bool
+    ensures { result ≡ leads_with_zero digits.now }
+{
+    match digits {
+        [first, _, ..] => *first == b'0',
+        _ => false,
+    }
 }
 
 /// The number at the front of the text, and what is behind it.

@@ -1,6 +1,6 @@
 //! Terms: one at the front of a text, without recursion on its depth.
 
-ghost use Rattle.std.specs.Prelude.{◌≡◌, ℕ, ◌≤◌, ◌<◌, ◌∷◌, List, IfOk, MatchBool, MatchOption, length, drop, slice_get, slice_set, slice_index_or, Some};
+ghost use Rattle.std.specs.Prelude.{◌≡◌, ℕ, ◌≤◌, ◌<◌, [], ◌∷◌, ◌++◌, if◌then◌else◌, List, IfOk, OnOk, MatchBool, MatchOption, length, drop, slice_get, slice_set, slice_index_or, Some};
 ghost use Rattle.mg_word.specs.Table.{Symbol};
 ghost use Rattle.proof_tree.specs.Terms as terms;
 ghost use Rattle.proof_tree.specs.Lists.{AreNumbers};
@@ -171,6 +171,16 @@ fn number_of(
     symbols.find(text, arity, kind)
 }
 
+// Adds the number, where it is to be kept.
+fn push_if(numbers: &mut Vec<u32>, is_kept: bool, number: u32) -> Result<(), NoMemory>
+    ensures { OnOk result (numbers.new.items ≡ (if is_kept then numbers.old.items ++ number ∷ [] else numbers.old.items)) }
+{
+    if is_kept {
+        numbers.push(number)?;
+    }
+    Ok(())
+}
+
 /// Whether all symbols of the term are in the table. If it has not too many, its word is left in the buffer.
 pub fn look_up(
     bytes: &[u8],
@@ -190,9 +200,7 @@ pub fn look_up(
         let Some(number) = number_of(bytes, raw, symbols, name)? else {
             return Ok(false);
         };
-        if is_light {
-            numbers.push(number)?;
-        }
+        push_if(numbers, is_light, number)?;
     }
     Ok(true)
 }
