@@ -129,3 +129,15 @@ number_missing bytes front rest cut none n r is =
     stops_number : (r : List ℕ) → ends_number r ≡ true → stops is_digit r ≡ true
     stops_number [] ends = refl
     stops_number (c ∷ r) ends = ends
+
+-- a number of several digits is above 0 from its first digit on
+pub some_more : (digits : List ℕ) (i value : ℕ) → i < length digits → list_all is_digit digits ≡ true → leads_with_zero digits ≡ false → 1 < length digits → (0 < i → 1 < length digits → 1 ≤ value) → 1 ≤ 10 * value + (slice_index_or digits i 0 - 48)
+some_more [] i value within all leads long some = absurd (omega arith)
+some_more (first ∷ []) i value within all leads long some = absurd (omega arith)
+some_more (first ∷ second ∷ digits) (suc i) value within all leads long some = omega (arith, some (omega arith) long)
+some_more (first ∷ second ∷ digits) zero value within all leads long some =
+    let digit = digit_range first (both (is_digit first) (list_all is_digit (second ∷ digits)) all).0 in
+    omega (arith, digit.0, no_zero first leads)
+  where
+    no_zero : (b : ℕ) → nat_eq b 48 ≡ false → (b ≡ 48 → ⊥)
+    no_zero b other same = grind (arith, nat_tests)

@@ -10,3 +10,4 @@ pub mod Decimals
 pub mod BareLines
 pub mod Verdicts
 pub mod Listing
+pub mod FormLines

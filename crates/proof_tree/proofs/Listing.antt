@@ -8,6 +8,8 @@ use Rattle.proof_tree.specs.DocFaults.{IsOwnTerm, begins_with}
 use Rattle.proof_tree.specs.Terms.{ends_term, IsTermAt, IsOnlyTerm, NoTerm}
 use Rattle.proof_tree.specs.Lists.{IsListAt, IsOnlyList, NoList, IsNextTerm, IsListing}
 use Rattle.proof_tree.proofs.Texts.{heads, tails}
+use Rattle.proof_tree.proofs.NameShapes.{none_other}
+use Rattle.proof_tree.proofs.TermSteps.{stuck_name, starts_ahead}
 
 abbrev texts : List (List Symbol) → List (List ℕ)
 texts terms = map spelled_symbols terms
@@ -78,9 +80,12 @@ listing_ends bytes rest behind have term here end so = record {
     by all t [] first same whole = sym whole ∙ ap (λ l. have ++ l ∷ []) first
     by all t (t' ∷ ts') first same whole = absurd (omega (arith, heads 44 93 (spelled_symbols t' ++ after_items (texts ts')) [] same))
 
+no_term_end : NoTerm (93 ∷ [])
+no_term_end = stuck_name (93 ∷ []) [] [] (93 ∷ []) (none_other 93 [] refl refl (λ same. omega (arith, same)) (λ same. omega (arith, same))) (starts_ahead (93 ∷ []))
+
 pub only_none : (bytes : List ℕ) → bytes ≡ 93 ∷ [] → IsOnlyList bytes []
 only_none bytes is = record { is = record { own = All-nil IsOwnTerm; text = sym is }; only = by }
   where
     by : (others : List (List Symbol)) → IsListAt bytes others → others ≡ []
     by [] at = refl
-    by (t ∷ ts) at = ?
+    by (t ∷ ts) at = absurd (no_term_end t (after_items (texts ts)) (subst (λ l. IsTermAt l t (after_items (texts ts))) is (record { own = All-head IsOwnTerm t ts at.own; text = at.text; ends = after_ends ts })))

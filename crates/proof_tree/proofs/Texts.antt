@@ -1,5 +1,5 @@
 -- How a text is split where a test first fails, and tests on its first byte.
-use Rattle.std.proofs.Common.{◌≡◌, ℕ, ◌+◌, ◌≤◌, ◌<◌, Bool, true, false, true≢false, not, ◌&&◌, cond, List, [], ◌∷◌, ◌++◌, length, take, drop, take_while, slice_index_or, refl, sym, ap, ◌∙◌, subst, arith}
+use Rattle.std.proofs.Common.{◌≡◌, ℕ, ◌+◌, ◌≤◌, ◌<◌, Bool, true, false, true≢false, not, ◌&&◌, cond, List, [], ◌∷◌, ◌++◌, length, take, drop, take_while, slice_index_or, refl, sym, ap, ◌∙◌, subst, length-append, arith}
 use Rattle.std.specs.List.{list_all}
 use Rattle.std.proofs.lemmas.List.{take_at, drop_at, take-append-drop}
 use Rattle.std.proofs.lemmas.List.Sums.{take_while-cons}
@@ -98,3 +98,7 @@ all_weaker p q weaker [] all = refl
 all_weaker p q weaker (byte ∷ bytes) all =
     let parts = both (p byte) (list_all p bytes) all in
     joined (q byte) (list_all q bytes) (weaker byte parts.0) (all_weaker p q weaker bytes parts.1)
+
+-- no more bytes pass than there are
+pub cut_short : (p : ℕ → Bool) (bytes : List ℕ) (count : ℕ) → count ≡ length (take_while p bytes) → count ≤ length bytes
+cut_short p bytes count is = omega (arith, is, ap length (taken_cut p bytes).split, length-append (take_while p bytes) (drop (length (take_while p bytes)) bytes))

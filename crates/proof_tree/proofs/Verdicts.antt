@@ -128,3 +128,7 @@ verdict_taken table have term words word unknown heavy true long found is none s
     }
 verdict_taken table have term words word unknown heavy false long found is none so =
     absurd (true≢false (either_false unknown true (either_false (unknown || true) (heavy || long) none).0).1)
+
+pub found_known : (table term : List Symbol) (word : List ℕ) (known : Bool) → MatchBool known (AllKnown table term × (length term ≤ most_symbols → AreNumbers table word term)) (HasUnknown table term) → MatchBool known (AllKnown table term) (HasUnknown table term)
+found_known table term word true found = found.0
+found_known table term word false found = found

@@ -13,7 +13,7 @@ use Rattle.tree_checker.specs.declared.doc_fault.DocKind.{DocKind}
 use Rattle.tree_checker.specs.declared.doc_fault.DocKind.TheVariants.{Header, NotBuilt, Syntax, Block, FormNumber, Unknown, Heavy, Order, Early, Rest}
 use Rattle.tree_checker.specs.declared.doc_fault.DocFault.{DocFault}
 use Rattle.tree_checker.specs.declared.doc_fault.DocFault.TheVariants.{Line, NoMemory}
-use Rattle.proof_tree.specs.DocText.{form_line, line_text, header, root_word, ended, bare, is_form_line}
+use Rattle.proof_tree.specs.DocText.{form_line, line_text, header, root_word, ended, bare, NamesForm}
 
 -- where a line of a document stands: first, second, or in the root's tree with so many trees still to come
 pub data Place : Type 0 where
@@ -31,7 +31,7 @@ trees_left forms (suc wanted) (line ∷ lines) = trees_left forms (length (concl
 pub record AreFirst (problem : ProblemData) (lines : List TreeLine) (wanted : ℕ) : Type 0 where
   pub fitting : All (LineFits problem.symbols) lines
   pub known : All (IsKnown problem.forms) lines
-  pub forms_alone : All (λ line. is_form_line line ≡ true) lines
+  pub forms_alone : All NamesForm lines
   pub left : trees_left problem.forms 1 lines ≡ Some wanted
 
 -- the lines are those of a document up to that place

@@ -1,5 +1,5 @@
 -- The text of a document, line by line, and a text without its lines that begin with `%`.
-use Rattle.std.specs.Prelude.{◌≡◌, ℕ, ◌+◌, Bool, true, false, not, nat_eq, List, [], ◌∷◌, ◌++◌, map, codes, if◌then◌else◌, All}
+use Rattle.std.specs.Prelude.{◌≡◌, ℕ, ◌+◌, ◌<◌, ◌^◌, nat_eq, List, [], ◌∷◌, ◌++◌, map, codes, if◌then◌else◌, All}
 use Rattle.std.specs.Fmt.{decimal}
 use Rattle.mg_word.specs.Table.{Symbol}
 use Rattle.mg_word.specs.Facts.{ProblemData}
@@ -93,15 +93,16 @@ bare_from spot (byte ∷ bytes) = kept_byte spot byte ++ bare_from (next_spot sp
 abbrev pub bare : List ℕ → List ℕ
 bare bytes = bare_from start bytes
 
-abbrev pub is_form_line : TreeLine → Bool
-is_form_line (FormLine number terms) = true
-is_form_line (Clash lit) = false
-is_form_line (Barred lit) = false
-is_form_line (By number) = false
+-- the line names a form, by a number that fits 32 bits
+abbrev pub NamesForm : TreeLine → Type 0
+NamesForm (FormLine number terms) = number < 2 ^ 32
+NamesForm (Clash lit) = ⊥
+NamesForm (Barred lit) = ⊥
+NamesForm (By number) = ⊥
 
 -- the text is that of a document that has no blocks and names forms alone, but for lines that begin with `%`
 pub record IsDocText (problem : ProblemData) (doc : Doc) (bytes : List ℕ) : Type 0 where
   pub well_formed : IsWellFormed problem doc
   pub no_blocks : doc.lemmas ≡ []
-  pub forms_alone : All (λ line. is_form_line line ≡ true) doc.root
+  pub forms_alone : All NamesForm doc.root
   pub text : bare bytes ≡ doc_text problem doc

@@ -10,7 +10,7 @@ use Rattle.tree_checker.specs.declared.doc_fault.DocKind.TheVariants.{Header, No
 use Rattle.tree_checker.specs.declared.doc_fault.DocFault.{DocFault}
 use Rattle.tree_checker.specs.declared.doc_fault.DocFault.TheVariants.{Line, NoMemory as OutOfMemory}
 use Rattle.tree_checker.specs.declared.doc.Doc.{Doc}
-use Rattle.proof_tree.specs.DocText.{line_text, ended, is_form_line, IsDocText}
+use Rattle.proof_tree.specs.DocText.{line_text, ended, NamesForm, IsDocText}
 use Rattle.proof_tree.specs.DocFaults.{has_no_feed, TreeLineFault, AreFirst, FaultAt, in_tree, IsDocFault}
 use Rattle.proof_tree.specs.declared.lines.TextEnd.{TextEnd}
 use Rattle.proof_tree.specs.declared.lines.TextEnd.TheVariants.{Whole, Unended}
@@ -26,7 +26,7 @@ EndsSo text Unended = (text ≢ []) × (has_no_feed text ≡ true)
 pub record IsLineOf (problem : ProblemData) (text : List ℕ) (line : TreeLine) : Type 0 where
   pub fits : LineFits problem.symbols line
   pub known : IsKnown problem.forms line
-  pub form : is_form_line line ≡ true
+  pub form : NamesForm line
   pub spelled : line_text problem.symbols line ≡ text
 
 -- and no other is
@@ -42,7 +42,7 @@ IsNoLine problem text NoMemory = Unit {0}
 -- the text is that of lines of a tree
 pub record IsTreeText (problem : ProblemData) (text : List ℕ) (lines : List TreeLine) : Type 0 where
   pub lines_are : AreLines problem lines
-  pub forms_alone : All (λ line. is_form_line line ≡ true) lines
+  pub forms_alone : All NamesForm lines
   pub spelled : ended (map (line_text problem.symbols) lines) ≡ text
 
 -- the tree that a text has so far, where these lines are still to come

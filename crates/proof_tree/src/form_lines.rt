@@ -90,15 +90,17 @@ pub fn read_line(
 ) -> Result<TreeLine, LineFault>
     ensures { MatchResult result (IsOnlyLine problem.now line.now) (IsNoLine problem.now line.now) }
 {
+    let symbols = &problem.symbols;
+    let _count = symbols.len();
+    let forms = problem.forms.as_slice().len();
     if is_later(line) {
         return Err(LineFault::Wrong(DocKind::NotBuilt));
     }
     let Some((number, list)) = parts_of(line) else {
         return Err(LineFault::Wrong(DocKind::Syntax));
     };
-    let Some(terms) = read_list(alloc, list, &problem.symbols, buffers)? else {
+    let Some(terms) = read_list(alloc, list, symbols, buffers)? else {
         return Err(LineFault::Wrong(DocKind::Syntax));
     };
-    let _count = problem.symbols.len();
-    line_of(problem.forms.as_slice().len(), number, terms)
+    line_of(forms, number, terms)
 }

@@ -26,7 +26,7 @@ pub fn next_line(bytes: &[u8]) -> Result<(&[u8], &[u8]), TextEnd>
         if count == rest.len() {
             return Err(text_end(rest));
         }
-        let after = skip(rest, count + 1);
+        let after = skip(skip(rest, count), 1);
         if !starts(rest, b"%") {
             return Ok((front(rest, count), after));
         }

@@ -1,6 +1,6 @@
 //! Lists of terms between square brackets.
 
-ghost use Rattle.std.specs.Prelude.{◌≡◌, ℕ, ◌≤◌, List, IfOk, OnOk, MatchOption, ◌++◌, ◌∷◌, []};
+ghost use Rattle.std.specs.Prelude.{◌≡◌, ℕ, ◌≤◌, List, IfOk, OnOk, MatchBool, MatchOption, ◌++◌, ◌∷◌, []};
 ghost use Rattle.mg_word.specs.Table.{Symbol};
 ghost use Rattle.proof_tree.specs.Lists as lists;
 ghost use Rattle.proof_tree.specs.Terms as terms;
@@ -17,6 +17,16 @@ pub struct TermList {
     pub words: Items<Word>,
     pub has_unknown: bool,
     pub has_heavy: bool,
+}
+
+// Whether the closing bracket is all that is left.
+fn ends_list(bytes: &[u8]) -> bool
+    ensures { MatchBool result (bytes.now ≡ 93 ∷ []) (bytes.now ≡ 93 ∷ [] → ⊥) }
+{
+    match bytes {
+        [byte] => *byte == b']',
+        _ => false,
+    }
 }
 
 // Adds the term whose symbols are in the buffer.
@@ -64,7 +74,7 @@ pub fn read_list(
         has_unknown: false,
         has_heavy: false,
     };
-    if bytes.len() == 1 && starts(bytes, b"]") {
+    if ends_list(bytes) {
         return Ok(Some(list));
     }
     let mut rest = bytes;
@@ -80,13 +90,10 @@ pub fn read_list(
         };
         add_term(alloc, rest, symbols, buffers, &mut list)?;
         let behind = skip(rest, end);
-        let [first, ..] = behind else {
-            return Ok(None);
-        };
-        if *first != b',' {
-            if *first == b']' && behind.len() == 1 {
-                return Ok(Some(list));
-            }
+        if ends_list(behind) {
+            return Ok(Some(list));
+        }
+        if !starts(behind, b",") {
             return Ok(None);
         }
         rest = skip(behind, 1);
