@@ -11,3 +11,4 @@ pub mod BareLines
 pub mod Verdicts
 pub mod Listing
 pub mod FormLines
+pub mod TreeFronts

@@ -1,6 +1,6 @@
 //! The lines of a text, without those that begin with `%`.
 
-ghost use Rattle.std.specs.Prelude.{◌≡◌, MatchResult, true};
+ghost use Rattle.std.specs.Prelude.{◌≡◌, ◌<◌, MatchResult, IfOk, length, true};
 ghost use Rattle.proof_tree.specs.DocText.{bare};
 ghost use Rattle.proof_tree.specs.DocFaults.{BeginsWithLine, has_no_feed};
 ghost use Rattle.proof_tree.specs.Lines.{EndsSo};
@@ -18,7 +18,8 @@ pub enum TextEnd {
 
 /// The first line that does not begin with `%`, without its line feed, and what is behind it.
 pub fn next_line(bytes: &[u8]) -> Result<(&[u8], &[u8]), TextEnd>
-    ensures { MatchResult result (λ found. BeginsWithLine (bare bytes.now) found.0.now (bare found.1.now)) (EndsSo (bare bytes.now)) }
+    ensures line { MatchResult result (λ found. BeginsWithLine (bare bytes.now) found.0.now (bare found.1.now)) (EndsSo (bare bytes.now)) }
+    ensures shorter { IfOk result (λ found. length found.1.now < length bytes.now) }
 {
     let mut rest = bytes;
     loop {
