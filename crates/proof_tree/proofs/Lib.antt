@@ -12,3 +12,4 @@ pub mod Verdicts
 pub mod Listing
 pub mod FormLines
 pub mod TreeFronts
+pub mod Documents

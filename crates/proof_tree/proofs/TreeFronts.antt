@@ -22,7 +22,11 @@ use Rattle.tree_checker.specs.declared.doc_fault.DocKind.{DocKind}
 use Rattle.tree_checker.specs.declared.doc_fault.DocKind.TheVariants.{Header, NotBuilt, Syntax, Block, FormNumber, Unknown, Heavy, Order, Early, Rest}
 use Rattle.proof_tree.specs.DocText.{line_text, form_line, listed, after_items, in_brackets, ended, NamesForm}
 use Rattle.proof_tree.specs.DocFaults.{trees_left, AreFirst, is_no_feed, has_no_feed, BeginsWithLine, FaultAt, LineFault, TreeLineFault, Place, at_header, at_root, in_tree}
-use Rattle.proof_tree.specs.Lines.{IsLineOf, IsOnlyLine, IsTreeText, IsTreeFront, IsTreeFault, NoTree, IsOnlyTree}
+use Rattle.proof_tree.specs.Lines.{IsLineOf, IsOnlyLine, IsNoLine, IsTreeText, IsTreeFront, IsTreeFault, TreeFault, NoTree, IsOnlyTree, EndsSo, fault_of}
+use Rattle.proof_tree.specs.declared.lines.TextEnd.{TextEnd}
+use Rattle.proof_tree.specs.declared.lines.TextEnd.TheVariants.{Whole, Unended}
+use Rattle.proof_tree.specs.declared.form_lines.LineFault.{LineFault as Fault}
+use Rattle.proof_tree.specs.declared.form_lines.LineFault.TheVariants.{Wrong, NoMemory}
 use Rattle.proof_tree.proofs.Texts.{both, joined, stops, cut_unique, heads, tails, all_weaker}
 use Rattle.proof_tree.proofs.Decimals.{decimal_digits}
 use Rattle.proof_tree.proofs.LookUps.{name_bytes}
@@ -69,10 +73,10 @@ counted_trees forms (suc n) [] is = absurd (no_more n is)
   where
     no_more : (k : ℕ) → Some (suc k) ≡ Some 0 → ⊥
     no_more k same = cc
-counted_trees forms zero (line ∷ lines) is = absurd (none is)
+counted_trees forms zero (line ∷ lines) is = absurd (none 0 is)
   where
-    none : None {T = ℕ} ≡ Some 0 → ⊥
-    none same = cc
+    none : (n : ℕ) → None ≡ Some n → ⊥
+    none n same = cc
 counted_trees forms (suc n) (line ∷ lines) is =
     let below = counted_trees forms (length (conclusions_at forms line) + n) lines is in
     let parts = parted forms (length (conclusions_at forms line)) n (length (conclusions_at forms line) + n) below.0 refl below.2 in
@@ -99,7 +103,7 @@ name_no_feed byte name = grind (arith, nat_tests)
 digit_no_feed : (byte : ℕ) → is_digit byte ≡ true → is_no_feed byte ≡ true
 digit_no_feed byte digit = grind (arith, nat_tests)
 
-feed_in : (a b : List ℕ) → has_no_feed (a ++ 10 ∷ b) ≡ true → ⊥
+pub feed_in : (a b : List ℕ) → has_no_feed (a ++ 10 ∷ b) ≡ true → ⊥
 feed_in [] b none = true≢false (sym none)
 feed_in (x ∷ a) b none = feed_in a b (both (is_no_feed x) (has_no_feed (a ++ 10 ∷ b)) none).1
 
@@ -174,7 +178,7 @@ All-middle P [] x ys every = All-head P x ys every
 All-middle P (y ∷ xs) x ys every = All-middle P xs x ys (All-tail P y (xs ++ x ∷ ys) every)
 
 -- a text begins with one line
-line_unique : (a b r s : List ℕ) → has_no_feed a ≡ true → has_no_feed b ≡ true → a ++ 10 ∷ r ≡ b ++ 10 ∷ s → (a ≡ b) × (r ≡ s)
+pub line_unique : (a b r s : List ℕ) → has_no_feed a ≡ true → has_no_feed b ≡ true → a ++ 10 ∷ r ≡ b ++ 10 ∷ s → (a ≡ b) × (r ≡ s)
 line_unique a b r s first second same =
     let cut = cut_unique is_no_feed a (10 ∷ r) b (10 ∷ s) first second refl refl same in
     (cut.0, tails 10 10 r s cut.1)
@@ -283,10 +287,10 @@ module _ (problem : ProblemData) (named : list_all is_symbol problem.symbols ≡
   -- no line follows a whole tree
   none_more : (lines more all : List TreeLine) → AreFirst problem lines 0 → lines ++ more ≡ all → IsTreeText problem text all → more ≡ []
   none_more lines [] all first same at = refl
-  none_more lines (m ∷ more) all first same at = absurd (other (no_tree_left lines (m ∷ more) all 0 first same at))
+  none_more lines (m ∷ more) all first same at = absurd (other 0 (no_tree_left lines (m ∷ more) all 0 first same at))
     where
-      other : None {T = ℕ} ≡ Some 0 → ⊥
-      other e = cc
+      other : (n : ℕ) → None ≡ Some n → ⊥
+      other n e = cc
 
   pub front_ends : (rest : List ℕ) (lines : List TreeLine) → rest ≡ [] → IsTreeFront problem text rest lines 0 → IsOnlyTree problem text lines
   front_ends rest lines none so = record {
@@ -303,3 +307,36 @@ module _ (problem : ProblemData) (named : list_all is_symbol problem.symbols ≡
     record { lines = lines; wanted = 0; first = so.first; rest = rest; split = so.split; number_is = refl; fault = fault },
     λ all at. let more = so.only all at in some (sym more.2 ∙ ap (λ l. ended (map (line_text problem.symbols) l)) (none_more lines more.0 all so.first more.1 at)),
   )
+
+no_text : (line after : List ℕ) → [] ≡ line ++ 10 ∷ after → ⊥
+no_text [] after same = cc
+no_text (byte ∷ line) after same = cc
+
+-- a fault behind the tree is not at the end of the text
+pub fault_some : (problem : ProblemData) (text : List ℕ) (kind : DocKind) → FaultAt problem (in_tree 0) text kind → text ≡ [] → ⊥
+fault_some problem text Early fault none = fault.1 none refl
+fault_some problem text Header fault none = no_text fault.0 fault.1 (sym none ∙ fault.2.split)
+fault_some problem text NotBuilt fault none = no_text fault.0 fault.1 (sym none ∙ fault.2.split)
+fault_some problem text Syntax fault none = no_text fault.0 fault.1 (sym none ∙ fault.2.split)
+fault_some problem text Block fault none = no_text fault.0 fault.1 (sym none ∙ fault.2.split)
+fault_some problem text FormNumber fault none = no_text fault.0 fault.1 (sym none ∙ fault.2.split)
+fault_some problem text Unknown fault none = no_text fault.0 fault.1 (sym none ∙ fault.2.split)
+fault_some problem text Heavy fault none = no_text fault.0 fault.1 (sym none ∙ fault.2.split)
+fault_some problem text Order fault none = no_text fault.0 fault.1 (sym none ∙ fault.2.split)
+fault_some problem text Rest fault none = no_text fault.0 fault.1 (sym none ∙ fault.2.split)
+
+pub ends_no_feed : (text : List ℕ) (end : TextEnd) → EndsSo text end → has_no_feed text ≡ true
+ends_no_feed text Whole ends = ap has_no_feed ends
+ends_no_feed text Unended ends = ends.1
+
+pub front_one : (problem : ProblemData) (text rest : List ℕ) (lines : List TreeLine) (wanted : ℕ) → 0 < wanted → IsTreeFront problem text rest lines wanted → IsTreeFront problem text rest lines (suc (wanted - 1))
+front_one problem text rest lines wanted some so = subst (IsTreeFront problem text rest lines) {x = wanted} (omega arith) so
+
+pub front_none : (problem : ProblemData) (text rest : List ℕ) (lines : List TreeLine) (wanted : ℕ) → wanted ≤ 0 → IsTreeFront problem text rest lines wanted → IsTreeFront problem text rest lines 0
+front_none problem text rest lines wanted none so = subst (IsTreeFront problem text rest lines) {x = wanted} (omega arith) so
+
+pub line_fault : (problem : ProblemData) (text rest line after : List ℕ) (lines : List TreeLine) (wanted number : ℕ) (fault : Fault) → number ≡ length lines + 3 → list_all is_symbol problem.symbols ≡ true → BeginsWithLine rest line after → IsNoLine problem line fault → IsTreeFront problem text rest lines (suc wanted)
+    → TreeFault problem text (fault_of number fault)
+line_fault problem text rest line after lines wanted number (Wrong kind) is named begins wrong so =
+    subst (λ n. IsTreeFault problem text n kind × NoTree problem text) (sym is) (front_wrong problem named text rest line after lines wanted kind begins wrong so)
+line_fault problem text rest line after lines wanted number NoMemory is named begins wrong so = tt

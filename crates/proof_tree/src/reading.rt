@@ -1,6 +1,6 @@
 //! The reading of documents, line by line.
 
-ghost use Rattle.std.specs.Prelude.{◌≡◌, ◌≢◌, ℕ, ◌<◌, ◌^◌, [], ◌∷◌, ◌++◌, MatchOption, MatchResult, IfOk, IfErr, length};
+ghost use Rattle.std.specs.Prelude.{◌≡◌, ◌≢◌, ◌+◌, ◌<◌, ◌≤◌, ◌^◌, [], ◌∷◌, ◌++◌, MatchOption, MatchResult, IfOk, OnOk, IfErr, length};
 ghost use Rattle.mg_word.specs.Facts.{ProblemData};
 ghost use Rattle.tree_checker.specs.Trees.{conclusions_at};
 ghost use Rattle.tree_checker.specs.Docs.{IsKnown};
@@ -11,15 +11,16 @@ ghost use Rattle.proof_tree.specs.Lines.{TreeFault, IsOnlyTree, EarlyFault, faul
 use crate::form_lines::{LineFault, is_later, read_line};
 use crate::lines::{TextEnd, next_line};
 use crate::terms::Buffers;
-use mg_word::{Items, Problem};
+use mg_word::{Items, NoMemory, Problem};
 use std::alloc::Global;
 use tree_checker::{Doc, DocFault, DocKind, TreeLine};
 
 // What is behind the header.
 fn after_header(bytes: &[u8]) -> Result<&[u8], DocKind>
-    ensures { MatchResult result
+    ensures read { MatchResult result
         (λ rest. BeginsWithLine (bare bytes.now) header (bare rest.now))
         (λ kind. (problem : ProblemData) → FaultAt problem at_header (bare bytes.now) kind) }
+    ensures shorter { IfOk result (λ rest. length rest.now < length bytes.now) }
 {
     let Ok((line, rest)) = next_line(bytes) else {
         return Err(DocKind::Early);
@@ -32,9 +33,10 @@ fn after_header(bytes: &[u8]) -> Result<&[u8], DocKind>
 
 // What is behind the line before the root's tree.
 fn after_root(bytes: &[u8]) -> Result<&[u8], DocKind>
-    ensures { MatchResult result
+    ensures read { MatchResult result
         (λ rest. BeginsWithLine (bare bytes.now) root_word (bare rest.now))
         (λ kind. (problem : ProblemData) → FaultAt problem at_root (bare bytes.now) kind) }
+    ensures shorter { IfOk result (λ rest. length rest.now < length bytes.now) }
 {
     let Ok((line, rest)) = next_line(bytes) else {
         return Err(DocKind::Early);
@@ -50,7 +52,8 @@ fn after_root(bytes: &[u8]) -> Result<&[u8], DocKind>
 
 // What is behind the line before the root's tree, from the start of the text.
 fn tree_part(bytes: &[u8]) -> Result<&[u8], DocFault>
-    ensures { MatchResult result (λ rest. bare bytes.now ≡ header ++ 10 ∷ (root_word ++ 10 ∷ bare rest.now)) (EarlyFault bytes.now) }
+    ensures read { MatchResult result (λ rest. bare bytes.now ≡ header ++ 10 ∷ (root_word ++ 10 ∷ bare rest.now)) (EarlyFault bytes.now) }
+    ensures shorter { IfOk result (λ rest. length rest.now + 2 ≤ length bytes.now) }
 {
     let rest = match after_header(bytes) {
         Ok(rest) => rest,
@@ -99,11 +102,20 @@ fn fault_at(fault: LineFault, number: u64) -> DocFault
     }
 }
 
+fn add_line(lines: &mut Vec<TreeLine>, line: TreeLine) -> Result<(), NoMemory>
+    ensures { OnOk result (lines.new.items ≡ lines.old.items ++ line ∷ []) }
+{
+    lines.push(line)?;
+    Ok(())
+}
+
 // The lines of the root's tree, which are all of the text.
 fn read_tree(alloc: Global, problem: &Problem, bytes: &[u8]) -> Result<Vec<TreeLine>, DocFault>
     requires { length bytes.now < 2 ^ 63 }
-    ensures { MatchResult result (λ lines. IsOnlyTree problem.now (bare bytes.now) lines.items) (TreeFault problem.now (bare bytes.now)) }
+    ensures read { MatchResult result (λ lines. IsOnlyTree problem.now (bare bytes.now) lines.items) (TreeFault problem.now (bare bytes.now)) }
+    ensures few { IfOk result (λ lines. length lines.items ≤ length bytes.now) }
 {
+    let _count = problem.symbols.len();
     let mut buffers = Buffers::new(alloc);
     let mut lines = Vec::new(alloc);
     let mut open: u128 = 1;
@@ -121,7 +133,7 @@ fn read_tree(alloc: Global, problem: &Problem, bytes: &[u8]) -> Result<Vec<TreeL
             Err(fault) => return Err(fault_at(fault, number)),
         };
         open = open - 1 + children_of(problem, &line);
-        if lines.push(line).is_err() {
+        if let Err(NoMemory) = add_line(&mut lines, line) {
             return Err(DocFault::NoMemory);
         }
         rest = after;
