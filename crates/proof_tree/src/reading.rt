@@ -162,9 +162,11 @@ pub fn read_doc(alloc: Global, bytes: &[u8], problem: &Problem) -> Result<Doc, D
         Ok(tree) => tree,
         Err(fault) => return Err(fault),
     };
-    let root = read_tree(alloc, problem, tree)?;
-    Ok(Doc {
-        lemmas: Items::empty(alloc),
-        root: Items::new(root),
-    })
+    match read_tree(alloc, problem, tree) {
+        Err(fault) => Err(fault),
+        Ok(root) => Ok(Doc {
+            lemmas: Items::empty(alloc),
+            root: Items::new(root),
+        }),
+    }
 }
