@@ -251,21 +251,19 @@ module _ (problem : ProblemData) (named : list_all is_symbol problem.symbols ≡
 
     not_known : IsNumbered (length problem.forms) number → unknown ≡ true → IsNoLine problem text (Wrong Unknown)
     not_known number_is is =
-        let some = subst (λ b. MatchBool b (Any (HasUnknown problem.symbols) read.terms) (All (AllKnown problem.symbols) read.terms)) is read.verdict.unknown_is in
-        (
+        let some = subst (λ b. MatchBool b (Any (HasUnknown problem.symbols) read.terms) (All (AllKnown problem.symbols) read.terms)) is read.verdict.unknown_is in (
           (number, read.terms, raw_is, numbered_some problem.forms number number_is, some),
           no_line (λ n others same terms fit known. any_all (HasUnknown problem.symbols) (AllKnown problem.symbols) read.terms (λ term missing all. any_all (λ symbol. IsSymbolOf problem.symbols symbol → ⊥) (IsSymbolOf problem.symbols) term (λ symbol no yes. no yes) missing all) some
-            (subst (All (AllKnown problem.symbols)) terms (All-map (AllKnown problem.symbols) (symbols_at problem.symbols) others (λ k d within. known_word problem.symbols named 1 (slice_index_or others k d) (fit k d within).0 (omega (arith, (fit k d within).1)))))),
+              (subst (All (AllKnown problem.symbols)) terms (All-map (AllKnown problem.symbols) (symbols_at problem.symbols) others (λ k d within. known_word problem.symbols named 1 (slice_index_or others k d) (fit k d within).0 (omega (arith, (fit k d within).1)))))),
         )
 
     not_light : IsNumbered (length problem.forms) number → unknown ≡ false → heavy ≡ true → IsNoLine problem text (Wrong Heavy)
     not_light number_is known is =
         let all = subst (λ b. MatchBool b (Any (HasUnknown problem.symbols) read.terms) (All (AllKnown problem.symbols) read.terms)) known read.verdict.unknown_is in
-        let some = subst (λ b. MatchBool b (Any IsHeavy read.terms) (All IsLight read.terms)) is read.verdict.heavy_is in
-        (
+        let some = subst (λ b. MatchBool b (Any IsHeavy read.terms) (All IsLight read.terms)) is read.verdict.heavy_is in (
           (number, read.terms, raw_is, numbered_some problem.forms number number_is, all, some),
           no_line (λ n others same terms fit known'. any_all IsHeavy IsLight read.terms (λ term long short. omega (arith, long, short)) some
-            (subst (All IsLight) terms (All-map IsLight (symbols_at problem.symbols) others (λ k d within. omega (arith, length_at problem.symbols named (slice_index_or others k d) (fit k d within).0, (fit k d within).1))))),
+              (subst (All IsLight) terms (All-map IsLight (symbols_at problem.symbols) others (λ k d within. omega (arith, length_at problem.symbols named (slice_index_or others k d) (fit k d within).0, (fit k d within).1))))),
         )
 
     pub line_found : (r : Result TreeLine Fault) → MatchResult r (λ line. IsNumbered (length problem.forms) number × (unknown ≡ false) × (heavy ≡ false) × (line ≡ FormLine number words)) (IsRefused (length problem.forms) number unknown heavy)

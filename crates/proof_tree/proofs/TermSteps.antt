@@ -144,8 +144,7 @@ constant_step levels current rest after kind name here closed = record { back = 
         let parts = both (suits k n 0) (are_own_terms (0 + total counts) symbols) is.own in
         let names : n ≡ name = same.1 in
         let kinds : k ≡ kind = same.0 in
-        let symbol : symbol_of name 0 kind ≡ symbol_of n 0 k = cc in
-        (
+        let symbol : symbol_of name 0 kind ≡ symbol_of n 0 k = cc in (
           counts,
           symbols,
           record { same = is.same; own = subst (λ m. are_own_terms m symbols ≡ true) {x = 0 + total counts} (sym (none_more (total counts))) parts.1; ends = is.ends; text = same.2 },
@@ -191,8 +190,7 @@ open_step levels current rest inside name here = record { back = back; forth = f
         let parts = both (suits k n (suc arity)) (are_own_terms (suc arity + total counts) symbols) is.own in
         let names : n ≡ name = same.1 in
         let kinds : k ≡ Word = same.0 in
-        let symbol : symbol_of name (suc arity) Word ≡ symbol_of n (suc arity) k = cc in
-        (
+        let symbol : symbol_of name (suc arity) Word ≡ symbol_of n (suc arity) k = cc in (
           arity ∷ counts,
           symbols,
           record {

@@ -41,7 +41,7 @@ pub cut_at : (p : ℕ → Bool) (bytes : List ℕ) (count : ℕ) → count ≡ l
 cut_at p bytes count is =
     let cut = taken_cut p bytes in
     let front : take count bytes ≡ take_while p bytes =
-        ap (λ n. take n bytes) is ∙ (ap (λ l. take (length (take_while p bytes)) l) (sym cut.split) ∙ take_at (take_while p bytes) (drop (length (take_while p bytes)) bytes) (length (take_while p bytes)) refl) in
+    ap (λ n. take n bytes) is ∙ (ap (λ l. take (length (take_while p bytes)) l) (sym cut.split) ∙ take_at (take_while p bytes) (drop (length (take_while p bytes)) bytes) (length (take_while p bytes)) refl) in
     subst (λ n. IsCut p bytes (take count bytes) (drop n bytes)) (sym is) (subst (λ l. IsCut p bytes l (drop (length (take_while p bytes)) bytes)) (sym front) cut)
 
 pub heads : {X : Type 0} (x y : X) (xs ys : List X) → x ∷ xs ≡ y ∷ ys → x ≡ y

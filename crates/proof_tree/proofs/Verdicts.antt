@@ -52,8 +52,7 @@ pub known_more : (bytes : List ℕ) (raws : List Raw) (table term : List Symbol)
     → AllKnown table (take (i + 1) term) × (light ≡ true → AreNumbers table (if light then numbers ++ number ∷ [] else numbers) (take (i + 1) term))
 known_more bytes raws table term i d numbers light number within are found so =
     let inside : i < length term = omega (arith, within, raws_length bytes raws term are) in
-    let here = found (slice_index_or term i no_symbol) (raw_at bytes raws term i d within are) in
-    (
+    let here = found (slice_index_or term i no_symbol) (raw_at bytes raws term i d within are) in (
       All-more (IsSymbolOf table) term i no_symbol inside so.0 here.0,
       λ is. subst (λ b. AreNumbers table (if b then numbers ++ number ∷ [] else numbers) (take (i + 1) term)) (sym is)
           (subst (λ l. AreNumbers table (numbers ++ number ∷ []) l) (sym (take_more term i no_symbol inside)) (numbers_push table numbers (take i term) number (slice_index_or term i no_symbol) (so.1 is) here.1)),

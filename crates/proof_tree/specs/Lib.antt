@@ -5,3 +5,4 @@ pub mod Numbers
 pub mod Terms
 pub mod Lists
 pub mod Lines
+pub mod Samples

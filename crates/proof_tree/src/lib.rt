@@ -11,3 +11,6 @@ mod slices;
 mod terms;
 
 pub use reading::read_doc;
+
+#[cfg(test)]
+mod tests;

@@ -121,10 +121,7 @@ fn may_be_bare(quote: u8, name: &[u8]) -> bool
 }
 
 // A plain number at the front of a text that begins with a digit.
-fn take_integer<'a>(
-    bytes: &'a [u8],
-    name: &mut Vec<u8>,
-) -> Result<Option<&'a [u8]>, NoMemory>
+fn take_integer<'a>(bytes: &'a [u8], name: &mut Vec<u8>) -> Result<Option<&'a [u8]>, NoMemory>
     requires { names.begins_digit bytes.now ≡ true }
     ensures { IfOk result (λ found. MatchOption found
         (names.NoName bytes.now)

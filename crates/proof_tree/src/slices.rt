@@ -46,10 +46,7 @@ pub fn is_word_byte(byte: u8) -> bool
 pub fn word_length(bytes: &[u8]) -> usize
     ensures { result ≡ length (take_while spelling.is_word_byte bytes.now) }
 {
-    bytes
-        .iter()
-        .take_while(|byte| is_word_byte(**byte))
-        .count()
+    bytes.iter().take_while(|byte| is_word_byte(**byte)).count()
 }
 
 /// How many digits are at the front.

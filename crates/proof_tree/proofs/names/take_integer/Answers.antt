@@ -24,6 +24,6 @@ pub returns : goal.returns
 returns c =
     let cut = cut_at is_digit c.args.bytes.now c.digits_length-count.result c.digits_length-count.ensures in
     let name : c.extend_from_slice.new.self.items ≡ take c.digits_length-count.result c.args.bytes.now =
-        c.in_ok-extend_from_slice.ensures.items ∙ (ap (λ l. l ++ c.front-digits.result.now) c.clear.ensures.items ∙ c.front-digits.ensures) in
+    c.in_ok-extend_from_slice.ensures.items ∙ (ap (λ l. l ++ c.front-digits.result.now) c.clear.ensures.items ∙ c.front-digits.ensures) in
     rw (name, c.skip-rest.ensures)
     (integer_taken c.args.bytes.now _ _ c.requires cut (ap is_plain_number (sym c.front-digits.ensures) ∙ sym c.if-not-is_plain_number.ensures) (ap ends_name (sym c.skip-rest.ensures) ∙ sym c.if-not-ends_name.ensures))

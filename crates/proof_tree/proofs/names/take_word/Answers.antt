@@ -8,5 +8,5 @@ pub returns : goal.returns
 returns c =
     let cut = cut_at is_word_byte c.args.bytes.now c.word_length-count.result c.word_length-count.ensures in
     let name : c.extend_from_slice.new.self.items ≡ take c.word_length-count.result c.args.bytes.now =
-        c.in_ok-extend_from_slice.ensures.items ∙ (ap (λ l. l ++ c.front.result.now) c.clear.ensures.items ∙ c.front.ensures) in
+    c.in_ok-extend_from_slice.ensures.items ∙ (ap (λ l. l ++ c.front.result.now) c.clear.ensures.items ∙ c.front.ensures) in
     rw (name, c.skip.ensures) (word_taken c.args.bytes.now _ _ c.requires cut)

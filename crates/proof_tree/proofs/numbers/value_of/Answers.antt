@@ -26,8 +26,8 @@ loop-digit-preserved c =
       some = λ behind long. omega (arith, is, some_more c.args.digits.now c.loop-digit.digit-index c.loop-digit.value c.loop-digit-test.true c.requires (sym c.if-has_leading_zero.ensures) long c.loop-digit.invariant.some);
       text =
           λ behind. ap decimal is
-              ∙ text_more c.args.digits.now c.loop-digit.digit-index c.loop-digit.value c.loop-digit-test.true c.requires c.loop-digit.invariant.small c.loop-digit.invariant.some c.loop-digit.invariant.text
-              (λ first. c.loop-digit.invariant.value ∙ ap (λ k. digits_value 10 (take k c.args.digits.now)) first);
+          ∙ text_more c.args.digits.now c.loop-digit.digit-index c.loop-digit.value c.loop-digit-test.true c.requires c.loop-digit.invariant.small c.loop-digit.invariant.some c.loop-digit.invariant.text
+          (λ first. c.loop-digit.invariant.value ∙ ap (λ k. digits_value 10 (take k c.args.digits.now)) first);
     }
 
 pub returns : goal.returns

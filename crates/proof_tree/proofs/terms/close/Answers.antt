@@ -14,12 +14,11 @@ returns-then-at-bytes c =
 pub returns-then-byte-eq44 : goal.returns-then-byte-eq44
 returns-then-byte-eq44 c =
     let more = drop_more c.args.bytes.now c.loop-level.at 0 (omega arith) in
-    let is : drop c.loop-level.at c.args.bytes.now ≡ 44 ∷ drop (c.loop-level.at + 1) c.args.bytes.now = more ∙ ap (λ b. b ∷ drop (c.loop-level.at + 1) c.args.bytes.now) c.if-byte-eq44.true in
-    (
+    let is : drop c.loop-level.at c.args.bytes.now ≡ 44 ∷ drop (c.loop-level.at + 1) c.args.bytes.now = more ∙ ap (λ b. b ∷ drop (c.loop-level.at + 1) c.args.bytes.now) c.if-byte-eq44.true in (
       omega (arith, c.loop-level.invariant.from),
       omega arith,
       rw (c.raise.ensures, c.in_ok-push.ensures.items)
-      (close_comma c.args.bytes.now c.loop-level.raws.items c.loop-level.opens.items c.pop.new.self.items c.in-Some.level c.in-Some.ensures.items _ _ is c.loop-level.invariant.after),
+          (close_comma c.args.bytes.now c.loop-level.raws.items c.loop-level.opens.items c.pop.new.self.items c.in-Some.level c.in-Some.ensures.items _ _ is c.loop-level.invariant.after),
     )
 
 pub returns-then-byte-ne41 : goal.returns-then-byte-ne41

@@ -15,7 +15,7 @@ returns-in_default c =
 pub loop-raw-preserved : goal.loop-raw-preserved
 loop-raw-preserved c =
     λ term are. rw c.in_ok-push_if.ensures
-        (known_more c.args.bytes.now c.args.raws.now c.args.symbols.now term c.loop-raw.raw-index no_raw c.loop-raw.numbers.items _ c.in-Some.number c.loop-raw-test.true are (λ symbol is. rw c.in-Some.is at (c.in_ok-number.ensures symbol is)) (c.loop-raw.invariant term are))
+    (known_more c.args.bytes.now c.args.raws.now c.args.symbols.now term c.loop-raw.raw-index no_raw c.loop-raw.numbers.items _ c.in-Some.number c.loop-raw-test.true are (λ symbol is. rw c.in-Some.is at (c.in_ok-number.ensures symbol is)) (c.loop-raw.invariant term are))
 
 pub returns : goal.returns
 returns c =

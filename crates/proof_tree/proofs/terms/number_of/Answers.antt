@@ -17,5 +17,5 @@ returns c =
     let text : c.in-Ok-from_utf8.text.now ≡ c.take_name.new.name.items = c.in-Ok-from_utf8.ensures.cases.0 ∙ c.deref.ensures.value in
     number_found c.args.bytes.now c.args.raw.now c.args.symbols.now (symbol_of c.in-Ok-from_utf8.text.now c.in-Ok.arity c.in-Some.kind) c.find.result c.find.ensures.found c.find.ensures.none
     (λ symbol is.
-      let same = symbol_is c.args.bytes.now c.args.raw.now symbol c.in-Some.kind c.take_name.new.name.items c.in-Some.field-0-1.now c.in-Ok.arity here (sym c.in-Ok.ensures.1) (omega (arith, c.in-Ok.ensures.0, c.in-Ok.ensures.1)) is in
-      (same.0 ∙ ap (λ n. symbol_of n c.in-Ok.arity c.in-Some.kind) (sym text), same.1))
+    let same = symbol_is c.args.bytes.now c.args.raw.now symbol c.in-Some.kind c.take_name.new.name.items c.in-Some.field-0-1.now c.in-Ok.arity here (sym c.in-Ok.ensures.1) (omega (arith, c.in-Ok.ensures.0, c.in-Ok.ensures.1)) is in
+    (same.0 ∙ ap (λ n. symbol_of n c.in-Ok.arity c.in-Some.kind) (sym text), same.1))
