@@ -1,0 +1,15 @@
+pub mod Texts
+pub mod Quotes
+pub mod NameShapes
+pub mod Cuts
+pub mod TermSteps
+pub mod RawTerms
+pub mod TermReading
+pub mod LookUps
+pub mod Decimals
+pub mod BareLines
+pub mod Verdicts
+pub mod Listing
+pub mod FormLines
+pub mod TreeFronts
+pub mod Documents

@@ -1,0 +1,16 @@
+//! Documents of proofs as texts: the reading of a text as a document.
+#![tactic(auto)]
+
+mod form_lines;
+mod lines;
+mod lists;
+mod names;
+mod numbers;
+mod reading;
+mod slices;
+mod terms;
+
+pub use reading::read_doc;
+
+#[cfg(test)]
+mod tests;
