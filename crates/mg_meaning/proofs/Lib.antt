@@ -2,6 +2,7 @@ pub mod Accepting
 pub mod Answering
 pub mod Bindings
 pub mod Binds
+pub mod ClauseTruth
 pub mod Decided
 pub mod Examples
 pub mod Excluded

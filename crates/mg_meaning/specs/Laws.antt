@@ -1,5 +1,5 @@
 -- Laws of the definitions, each of which a public function of this crate states as its contract.
-use Rattle.std.specs.Prelude.{◌≡◌, ◌≢◌, ◌↔◌, ◌⊎◌, ℕ, ◌<◌, false, List, [], ◌∷◌, ◌++◌, length, take, Option, All, AllPairs, Contains, IsTrue}
+use Rattle.std.specs.Prelude.{◌≡◌, ◌≢◌, ◌↔◌, ◌⊎◌, ℕ, ◌<◌, false, List, [], ◌∷◌, ◌++◌, length, map, take, Option, All, AllPairs, Contains, IsTrue}
 use Rattle.std.specs.Cmp.{IsTotalOrder}
 use Rattle.std.specs.List.{list_any}
 use Rattle.std.specs.declared.cmp.Ordering.TheVariants.{Equal}
@@ -12,7 +12,7 @@ use Rattle.mg_word.specs.declared.lit.Lit.{Lit}
 use Rattle.mg_word.specs.declared.form.Form.{Form}
 use Rattle.mg_word.specs.declared.form.Inst.{Inst}
 use Rattle.mg_meaning.specs.Truth.{Ground, makes_true, atoms_of}
-use Rattle.mg_meaning.specs.Refuting.{IsClauseInstance}
+use Rattle.mg_meaning.specs.Refuting.{IsClauseInstance, Refutes, ground_of}
 use Rattle.mg_meaning.specs.Instances.{are_literals, IsInstance}
 use Rattle.mg_meaning.specs.Satisfaction.{Satisfies}
 use Rattle.mg_meaning.specs.Minimality.{IsMinimal, ListsMinimal}
@@ -106,3 +106,7 @@ IncludesMinimal = (problem : ProblemData) → IsProblem problem → (set : List 
 -- where the least violated instance weighs more than the limit, the plain tree has no number of extensions
 abbrev pub HeavyHasNoPlain : Type 0
 HeavyHasNoPlain = (problem : ProblemData) (weight : ℕ) (held barred : List Lit) (inst : Inst) → IsLeast problem held inst → weight < weight_of inst → (count : ℕ) → Plain problem weight held barred count → ⊥
+
+-- where instances of the problem cover nothing, the instances of their clauses refute it
+abbrev pub CoveringNoneRefutes : Type 0
+CoveringNoneRefutes = (problem : ProblemData) → IsProblem problem → (insts : List Inst) → All (IsInstance problem) insts → Covers insts [] → Refutes (map (ground_of problem) insts) problem

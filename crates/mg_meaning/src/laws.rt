@@ -1,6 +1,6 @@
 //! The laws of the definitions: each function states one as its contract and does nothing.
 
-ghost use Rattle.mg_meaning.specs.Laws.{OrdersSets, OrdersInstances, RisingIsUnique, LeastIsUnique, SatisfiesWhereSaturated, MinimalListIsUnique, IsHerbrandModel, InstancesExclude, InstancesCover, FoldExcludes, LeavesExclude, PlainIsUnique, MatchesAreExact, MatchesGrow, SatisfyingIsDecided, IncludesMinimal, HeavyHasNoPlain};
+ghost use Rattle.mg_meaning.specs.Laws.{OrdersSets, OrdersInstances, RisingIsUnique, LeastIsUnique, SatisfiesWhereSaturated, MinimalListIsUnique, IsHerbrandModel, InstancesExclude, InstancesCover, FoldExcludes, LeavesExclude, PlainIsUnique, MatchesAreExact, MatchesGrow, SatisfyingIsDecided, IncludesMinimal, HeavyHasNoPlain, CoveringNoneRefutes};
 
 /// The order of sets is total, and only equal sets tie.
 pub fn sets_are_ordered()
@@ -45,6 +45,11 @@ pub fn instances_exclude()
 /// Where instances of a problem cover, each satisfying set includes one of the sets.
 pub fn instances_cover()
     ensures { InstancesCover }
+{}
+
+/// Where instances of a problem cover nothing, the instances of their clauses refute it.
+pub fn covering_none_refutes()
+    ensures { CoveringNoneRefutes }
 {}
 
 /// The pair folded from the children's pairs excludes where each of those does.
