@@ -17,5 +17,6 @@ pub mod Lists
 pub mod Matchings
 pub mod MinimalLists
 pub mod PartsTried
+pub mod PlainCovers
 pub mod PlainShapes
 pub mod Terms

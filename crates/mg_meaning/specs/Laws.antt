@@ -18,11 +18,11 @@ use Rattle.mg_meaning.specs.Satisfaction.{Satisfies}
 use Rattle.mg_meaning.specs.Minimality.{IsMinimal, ListsMinimal}
 use Rattle.mg_meaning.specs.Deciding.{is_satisfying, is_least}
 use Rattle.mg_meaning.specs.Violation.{weight_of, inst_cmp, IsLeast, IsSaturated}
-use Rattle.mg_meaning.specs.Excluding.{ExcludesBy, Excludes, Covers}
+use Rattle.mg_meaning.specs.Excluding.{passes, ExcludesBy, Excludes, Covers}
 use Rattle.mg_meaning.specs.Folding.{Pair, folded, rejecting, clashing, barring}
 use Rattle.mg_meaning.specs.Matches.{terms_of, IsPrefixMatch}
 use Rattle.mg_meaning.specs.Matching.{matches}
-use Rattle.mg_meaning.specs.PlainTree.{Plain}
+use Rattle.mg_meaning.specs.PlainTree.{Shape, IsPlain, Plain, saturated_in}
 
 -- the order of sets is total, and only equal sets tie
 pub record OrdersSets : Type 0 where
@@ -110,3 +110,8 @@ HeavyHasNoPlain = (problem : ProblemData) (weight : ℕ) (held barred : List Lit
 -- where instances of the problem cover nothing, the instances of their clauses refute it
 abbrev pub CoveringNoneRefutes : Type 0
 CoveringNoneRefutes = (problem : ProblemData) → IsProblem problem → (insts : List Inst) → All (IsInstance problem) insts → Covers insts [] → Refutes (map (ground_of problem) insts) problem
+
+-- a satisfying set that passes a node includes the literals of a saturated node of the plain tree from there
+abbrev pub PlainIncludes : Type 0
+PlainIncludes = (problem : ProblemData) (weight : ℕ) (held barred : List Lit) (shape : Shape) → IsPlain problem weight held barred shape
+    → (set : List Lit) → Satisfies set problem → IsTrue (passes set held barred) → IsTrue (list_any (λ listed. is_part listed set) (saturated_in held shape))

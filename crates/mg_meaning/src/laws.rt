@@ -1,6 +1,6 @@
 //! The laws of the definitions: each function states one as its contract and does nothing.
 
-ghost use Rattle.mg_meaning.specs.Laws.{OrdersSets, OrdersInstances, RisingIsUnique, LeastIsUnique, SatisfiesWhereSaturated, MinimalListIsUnique, IsHerbrandModel, InstancesExclude, InstancesCover, FoldExcludes, LeavesExclude, PlainIsUnique, MatchesAreExact, MatchesGrow, SatisfyingIsDecided, IncludesMinimal, HeavyHasNoPlain, CoveringNoneRefutes};
+ghost use Rattle.mg_meaning.specs.Laws.{OrdersSets, OrdersInstances, RisingIsUnique, LeastIsUnique, SatisfiesWhereSaturated, MinimalListIsUnique, IsHerbrandModel, InstancesExclude, InstancesCover, FoldExcludes, LeavesExclude, PlainIsUnique, MatchesAreExact, MatchesGrow, SatisfyingIsDecided, IncludesMinimal, HeavyHasNoPlain, CoveringNoneRefutes, PlainIncludes};
 
 /// The order of sets is total, and only equal sets tie.
 pub fn sets_are_ordered()
@@ -91,3 +91,9 @@ pub fn satisfying_includes_minimal()
 pub fn heavy_has_no_plain_tree()
     ensures { HeavyHasNoPlain }
 {}
+
+/// A satisfying set that passes a node includes the literals of a saturated node of the plain tree from there.
+pub fn plain_tree_includes_saturated()
+    ensures { PlainIncludes }
+{
+}
