@@ -35,7 +35,7 @@ abbrev mutual
 abbrev pub is_closed_at_once : List Lit → List Lit → Lit → Bool
 is_closed_at_once held barred conclusion = holds held (complement_of conclusion) || holds barred conclusion
 
--- the tree from these literals, in path order, and this barred set has that shape; it has none where a heavier instance comes up
+-- the tree from these literals, in path order, and this barred set has that shape; it has none where a least violated instance weighs more than the limit
 abbrev mutual
   pub IsPlain : ProblemData → ℕ → List Lit → List Lit → Shape → Type 0
   IsPlain problem weight held barred saturated = IsSaturated problem held

@@ -20,6 +20,6 @@ pub record Refutes (instances : List Ground) (problem : ProblemData) : Type 0 wh
   pub each : All (IsClauseInstance problem) instances
   pub contradictory : (atoms : List (List ℕ)) → list_all (makes_true problem.clauses atoms) instances ≡ false
 
--- the instance of a form's clause that has the terms of the form's instance
+-- of an instance of a problem's form: the instance of the form's clause by the same terms
 abbrev pub ground_of : ProblemData → Inst → Ground
 ground_of problem inst = record { clause = option_map_or (λ form. form.clause) (numbered problem.forms inst.form) 0; terms = inst.subst }

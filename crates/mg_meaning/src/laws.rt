@@ -95,5 +95,4 @@ pub fn heavy_has_no_plain_tree()
 /// A satisfying set that passes a node includes the literals of a saturated node of the plain tree from there.
 pub fn plain_tree_includes_saturated()
     ensures { PlainIncludes }
-{
-}
+{}
