@@ -1,13 +1,14 @@
 -- Where instances cover nothing, the instances of their clauses are true under no atoms.
-use Rattle.std.proofs.Common.{◌≡◌, ℕ, zero, suc, ◌+◌, Bool, true, false, true≢false, not, ◌&&◌, ◌||◌, List, [], ◌∷◌, ◌++◌, map, filter, length, All, Contains, Some, Option, slice_get, refl, sym, ap, subst, ◌∙◌, ◌⊎◌, inl, inr, if◌then◌else◌, nat_eq, arith}
+use Rattle.std.proofs.Common.{◌≡◌, ℕ, zero, suc, ◌+◌, Bool, true, false, true≢false, not, List, [], ◌∷◌, ◌++◌, map, filter, length, All, Some, slice_get, refl, sym, ap, subst, ◌∙◌, inl, inr, if◌then◌else◌, nat_eq, arith}
 use Rattle.std.specs.List.{list_any, list_all, flat_map}
 use Rattle.std.specs.Option.{option_map_or}
 use Rattle.std.proofs.lemmas.Bool.{eqb-true}
 use Rattle.std.proofs.lemmas.List.Elements.{All-head, All-tail, All-nil, All-cons}
-use Rattle.mg_word.specs.Words.{fits, complement_of, lit_instance, lit_instances, form_instance, numbered}
-use Rattle.mg_word.specs.Sets.{holds, is_part, meets, is_clash_free}
-use Rattle.mg_word.specs.Forms.{opposite, premises_of, conclusions_of, is_among, chosen_from, others_from, is_always_true, plain_form, further_form, clause_forms, forms_from, forms_of}
-use Rattle.mg_word.specs.Facts.{ProblemData, IsProblem}
+use Rattle.mg_word.specs.Table.{Symbol}
+use Rattle.mg_word.specs.Words.{fits, pattern_fits, complement_of, lit_instance, lit_instances}
+use Rattle.mg_word.specs.Sets.{holds, is_part, is_clash_free}
+use Rattle.mg_word.specs.Forms.{opposite, premises_of, conclusions_of, is_among, chosen_from, others_from, is_always_true, plain_form, further_form, clause_forms, forms_from}
+use Rattle.mg_word.specs.Facts.{ProblemData, IsProblem, literal_fits}
 use Rattle.mg_word.specs.declared.lit.Lit.{Lit}
 use Rattle.mg_word.specs.declared.lit.PatLit.{PatLit}
 use Rattle.mg_word.specs.declared.clause.Clause.{Clause}
@@ -15,13 +16,13 @@ use Rattle.mg_word.specs.declared.clause.ClauseLit.{ClauseLit}
 use Rattle.mg_word.specs.declared.clause.ClauseLit.TheVariants.{True, False, Lit as Literal}
 use Rattle.mg_word.specs.declared.form.Form.{Form}
 use Rattle.mg_word.specs.declared.form.Inst.{Inst}
-use Rattle.mg_word.proofs.Members.{both_true, and_true, either_true, or_true, never_true, not_false, part_holds, meets_at, clash_free_from, holds_cases, holds_first, holds_later}
-use Rattle.mg_meaning.specs.Truth.{is_atom_of, lit_true, literal_true, clause_true, Ground, makes_true}
+use Rattle.mg_word.proofs.Members.{both_true, and_true, either_true, or_true, never_true, not_false, meets_at, clash_free_from, holds_first, holds_later}
+use Rattle.mg_meaning.specs.Truth.{is_atom_of, lit_true, clause_true, makes_true}
 use Rattle.mg_meaning.specs.Refuting.{IsClauseInstance, Refutes, ground_of}
-use Rattle.mg_meaning.specs.Instances.{is_substitution, IsInstance}
+use Rattle.mg_meaning.specs.Instances.{IsInstance}
 use Rattle.mg_meaning.specs.Violation.{is_violated}
 use Rattle.mg_meaning.specs.Excluding.{obeys, Covers}
-use Rattle.mg_meaning.proofs.Lists.{Among, among-append, among-map, among_flat_mapped, among_left, among_right}
+use Rattle.mg_meaning.proofs.Lists.{Among, among-append, among-map, among_flat_mapped, among_right}
 use Rattle.mg_meaning.proofs.Matchings.{holds_from_among, among_from_holds}
 use Rattle.mg_meaning.proofs.Listings.{among-filter, among_filtered}
 use Rattle.mg_meaning.proofs.Excluded.{fine_from}
@@ -74,12 +75,40 @@ further_says at chosen (True ∷ literals) plain = absurd (true≢false plain)
 further_says at chosen (False ∷ literals) plain = further_says (at + 1) chosen literals plain
 further_says at chosen (Literal lit ∷ literals) plain = literal_says lit literals (is_among chosen at) (others_from (at + 1) chosen literals) (chosen_from (at + 1) chosen literals) (further_says (at + 1) chosen literals plain)
 
+plain_fits : (table : List Symbol) (variables : ℕ) (literals : List ClauseLit) → list_all (literal_fits table variables) literals ≡ true → list_all (λ (lit : PatLit). pattern_fits table variables lit.pattern) (conclusions_of literals) ≡ true
+plain_fits table variables [] all = refl
+plain_fits table variables (True ∷ literals) all = plain_fits table variables literals all
+plain_fits table variables (False ∷ literals) all = plain_fits table variables literals all
+plain_fits table variables (Literal lit ∷ literals) all =
+    let parts = both_true (pattern_fits table variables lit.pattern) (list_all (literal_fits table variables) literals) all in
+    by lit.negative parts.0 (plain_fits table variables literals parts.1)
+  where
+    by : (negative : Bool) → pattern_fits table variables lit.pattern ≡ true → list_all (λ (one : PatLit). pattern_fits table variables one.pattern) (conclusions_of literals) ≡ true
+        → list_all (λ (one : PatLit). pattern_fits table variables one.pattern) (if negative then conclusions_of literals else lit ∷ conclusions_of literals) ≡ true
+    by true own rest = rest
+    by false own rest = and_true (pattern_fits table variables lit.pattern) (list_all (λ (one : PatLit). pattern_fits table variables one.pattern) (conclusions_of literals)) own rest
+
+further_fits : (table : List Symbol) (variables at : ℕ) (chosen : List ℕ) (literals : List ClauseLit) → list_all (literal_fits table variables) literals ≡ true → list_all (λ (lit : PatLit). pattern_fits table variables lit.pattern) (chosen_from at chosen literals) ≡ true
+further_fits table variables at chosen [] all = refl
+further_fits table variables at chosen (True ∷ literals) all = further_fits table variables (at + 1) chosen literals all
+further_fits table variables at chosen (False ∷ literals) all = further_fits table variables (at + 1) chosen literals all
+further_fits table variables at chosen (Literal lit ∷ literals) all =
+    let parts = both_true (pattern_fits table variables lit.pattern) (list_all (literal_fits table variables) literals) all in
+    by (is_among chosen at) parts.0 (further_fits table variables (at + 1) chosen literals parts.1)
+  where
+    by : (kept : Bool) → pattern_fits table variables lit.pattern ≡ true → list_all (λ (one : PatLit). pattern_fits table variables one.pattern) (chosen_from (at + 1) chosen literals) ≡ true
+        → list_all (λ (one : PatLit). pattern_fits table variables one.pattern) (if kept then lit ∷ chosen_from (at + 1) chosen literals else chosen_from (at + 1) chosen literals) ≡ true
+    by true own rest = and_true (pattern_fits table variables lit.pattern) (list_all (λ (one : PatLit). pattern_fits table variables one.pattern) (chosen_from (at + 1) chosen literals)) own rest
+    by false own rest = rest
+
 -- a form of the clause at this place
 pub record IsFormAt (clauses : List Clause) (place : ℕ) (form : Form) : Type 0 where
   pub clause : Clause
   pub there : slice_get clauses place ≡ Some clause
   pub variables : form.variables ≡ length clause.variables
   pub says : SaysSame clause.literals form.premises form.conclusions
+  -- its conclusions are over the symbols where the clause's literals are
+  pub fitting : (table : List Symbol) (variables : ℕ) → list_all (literal_fits table variables) clause.literals ≡ true → list_all (λ (lit : PatLit). pattern_fits table variables lit.pattern) form.conclusions ≡ true
 
 clause_form_at : (index : ℕ) (clause : Clause) (clauses : List Clause) (form : Form) → Among (clause_forms index clause) form → (form.clause ≡ index) × IsFormAt (clause ∷ clauses) 0 form
 clause_form_at index clause clauses form is = by (is_always_true clause.literals) refl is
@@ -88,15 +117,15 @@ clause_form_at index clause clauses form is = by (is_always_true clause.literals
     by true e is = absurd is
     by false e (inl same) = (
       ap (λ (one : Form). one.clause) (sym same),
-      subst (IsFormAt (clause ∷ clauses) 0) same (record { clause = clause; there = refl; variables = refl; says = plain_says clause.literals e }),
+      subst (IsFormAt (clause ∷ clauses) 0) same (record { clause = clause; there = refl; variables = refl; says = plain_says clause.literals e; fitting = λ table variables. plain_fits table variables clause.literals }),
     )
     by false e (inr later) =
         let (chosen, item, same) = among-map (further_form index clause) clause.conclude form later in (
           ap (λ (one : Form). one.clause) (sym same),
-          subst (IsFormAt (clause ∷ clauses) 0) same (record { clause = clause; there = refl; variables = refl; says = further_says 1 chosen clause.literals e }),
+          subst (IsFormAt (clause ∷ clauses) 0) same (record { clause = clause; there = refl; variables = refl; says = further_says 1 chosen clause.literals e; fitting = λ table variables. further_fits table variables 1 chosen clause.literals }),
         )
 
-form_at : (index : ℕ) (clauses : List Clause) (form : Form) → Among (forms_from index clauses) form → (place : ℕ) × (form.clause ≡ index + place) × IsFormAt clauses place form
+pub form_at : (index : ℕ) (clauses : List Clause) (form : Form) → Among (forms_from index clauses) form → (place : ℕ) × (form.clause ≡ index + place) × IsFormAt clauses place form
 form_at index [] form there = absurd there
 form_at index (clause ∷ clauses) form there = elim (among-append (clause_forms index clause) (forms_from (index + 1) clauses) form there) [
   | inl own ↦
@@ -104,7 +133,7 @@ form_at index (clause ∷ clauses) form there = elim (among-append (clause_forms
       (zero, omega (arith, number), is)
   | inr later ↦
       let (place, number, is) = form_at (index + 1) clauses form later in
-      (suc place, omega (arith, number), record { clause = is.clause; there = is.there; variables = is.variables; says = is.says })
+      (suc place, omega (arith, number), record { clause = is.clause; there = is.there; variables = is.variables; says = is.says; fitting = is.fitting })
 ]
 
 -- the clause of an instance of a problem

@@ -4,6 +4,7 @@ pub mod Bindings
 pub mod Binds
 pub mod ClauseTruth
 pub mod Decided
+pub mod Enough
 pub mod Examples
 pub mod Excluded
 pub mod FormSteps
@@ -12,6 +13,7 @@ pub mod Fronts
 pub mod Herbrand
 pub mod InstOrders
 pub mod LeastSteps
+pub mod LightInsts
 pub mod Listings
 pub mod Lists
 pub mod Matchings
@@ -19,4 +21,5 @@ pub mod MinimalLists
 pub mod PartsTried
 pub mod PlainCovers
 pub mod PlainShapes
+pub mod Room
 pub mod Terms

@@ -1,17 +1,16 @@
 -- A satisfying set that passes a node includes the literals of a saturated node of the plain tree below it.
-use Rattle.std.proofs.Common.{◌≡◌, ℕ, Bool, true, false, true≢false, ◌||◌, List, [], ◌∷◌, ◌++◌, refl, sym, ap, subst, ◌∙◌, ◌⊎◌, inl, inr}
+use Rattle.std.proofs.Common.{◌≡◌, ℕ, Bool, true, false, true≢false, List, [], ◌∷◌, ◌++◌, refl, sym, ap, ◌∙◌, inl, inr}
 use Rattle.std.specs.List.{list_any}
 use Rattle.mg_word.specs.Sets.{same_lit, holds, is_part, meets, with_lit}
 use Rattle.mg_word.specs.Words.{complement_of}
 use Rattle.mg_word.specs.OrderLaws.{lits_equal}
 use Rattle.mg_word.specs.Facts.{ProblemData}
 use Rattle.mg_word.specs.declared.lit.Lit.{Lit}
-use Rattle.mg_word.specs.declared.form.Inst.{Inst}
-use Rattle.mg_word.proofs.Members.{two_cases, either_true, or_true, not_true, part_holds, part_of_part, part-append, none_met, not_met, clash_free_at, and_true}
+use Rattle.mg_word.proofs.Members.{two_cases, either_true, or_true, part_holds, part_of_part, part-append, none_met, not_met, clash_free_at, and_true}
 use Rattle.mg_word.proofs.Risings.{holds-with_lit}
 use Rattle.mg_meaning.specs.Satisfaction.{Satisfies}
 use Rattle.mg_meaning.specs.Excluding.{passes}
-use Rattle.mg_meaning.specs.PlainTree.{Shape, Shapes, saturated, rejected, split, none, shut, child, is_closed_at_once, IsPlain, ArePlain, saturated_in, saturated_in_all}
+use Rattle.mg_meaning.specs.PlainTree.{Shape, Shapes, saturated, rejected, split, none, shut, child, IsPlain, ArePlain, saturated_in, saturated_in_all}
 use Rattle.mg_meaning.proofs.Excluded.{violated_parts, passing_parts}
 
 -- one of the sets is included

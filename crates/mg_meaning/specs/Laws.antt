@@ -1,5 +1,5 @@
 -- Laws of the definitions, each of which a public function of this crate states as its contract.
-use Rattle.std.specs.Prelude.{◌≡◌, ◌≢◌, ◌↔◌, ◌⊎◌, ℕ, ◌<◌, false, List, [], ◌∷◌, ◌++◌, length, map, take, Option, All, AllPairs, Contains, IsTrue}
+use Rattle.std.specs.Prelude.{◌≡◌, ◌≢◌, ◌↔◌, ◌⊎◌, ℕ, ◌<◌, ◌≤◌, false, List, [], ◌∷◌, ◌++◌, length, map, take, Option, All, AllPairs, Contains, IsTrue}
 use Rattle.std.specs.Cmp.{IsTotalOrder}
 use Rattle.std.specs.List.{list_any}
 use Rattle.std.specs.declared.cmp.Ordering.TheVariants.{Equal}
@@ -22,6 +22,7 @@ use Rattle.mg_meaning.specs.Excluding.{passes, ExcludesBy, Excludes, Covers}
 use Rattle.mg_meaning.specs.Folding.{Pair, folded, rejecting, clashing, barring}
 use Rattle.mg_meaning.specs.Matches.{terms_of, IsPrefixMatch}
 use Rattle.mg_meaning.specs.Matching.{matches}
+use Rattle.mg_meaning.specs.Bound.{bound, positive_weight}
 use Rattle.mg_meaning.specs.PlainTree.{Shape, IsPlain, Plain, saturated_in}
 
 -- the order of sets is total, and only equal sets tie
@@ -115,3 +116,8 @@ CoveringNoneRefutes = (problem : ProblemData) → IsProblem problem → (insts :
 abbrev pub PlainIncludes : Type 0
 PlainIncludes = (problem : ProblemData) (weight : ℕ) (held barred : List Lit) (shape : Shape) → IsPlain problem weight held barred shape
     → (set : List Lit) → Satisfies set problem → IsTrue (passes set held barred) → IsTrue (list_any (λ listed. is_part listed set) (saturated_in held shape))
+
+-- where ground instances whose positive literals weigh at most so much refute, the plain tree within that weight has at most the bound's number of extensions
+abbrev pub BoundIsEnough : Type 0
+BoundIsEnough = (problem : ProblemData) → IsProblem problem → (instances : List Ground) → Refutes instances problem → (light weight : ℕ) → light ≤ weight
+    → All (λ instance. positive_weight problem.clauses instance ≤ light) instances → (count : ℕ) × Plain problem weight [] [] count × (count ≤ bound problem light)

@@ -1,6 +1,6 @@
 //! The laws of the definitions: each function states one as its contract and does nothing.
 
-ghost use Rattle.mg_meaning.specs.Laws.{OrdersSets, OrdersInstances, RisingIsUnique, LeastIsUnique, SatisfiesWhereSaturated, MinimalListIsUnique, IsHerbrandModel, InstancesExclude, InstancesCover, FoldExcludes, LeavesExclude, PlainIsUnique, MatchesAreExact, MatchesGrow, SatisfyingIsDecided, IncludesMinimal, HeavyHasNoPlain, CoveringNoneRefutes, PlainIncludes};
+ghost use Rattle.mg_meaning.specs.Laws.{OrdersSets, OrdersInstances, RisingIsUnique, LeastIsUnique, SatisfiesWhereSaturated, MinimalListIsUnique, IsHerbrandModel, InstancesExclude, InstancesCover, FoldExcludes, LeavesExclude, PlainIsUnique, MatchesAreExact, MatchesGrow, SatisfyingIsDecided, IncludesMinimal, HeavyHasNoPlain, CoveringNoneRefutes, PlainIncludes, BoundIsEnough};
 
 /// The order of sets is total, and only equal sets tie.
 pub fn sets_are_ordered()
@@ -95,4 +95,9 @@ pub fn heavy_has_no_plain_tree()
 /// A satisfying set that passes a node includes the literals of a saturated node of the plain tree from there.
 pub fn plain_tree_includes_saturated()
     ensures { PlainIncludes }
+{}
+
+/// Where light ground instances refute, the plain tree has at most the bound's number of extensions.
+pub fn bound_is_enough()
+    ensures { BoundIsEnough }
 {}
