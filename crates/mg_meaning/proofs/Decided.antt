@@ -14,18 +14,18 @@ use Rattle.mg_meaning.specs.Minimality.{IsMinimal}
 use Rattle.mg_meaning.specs.Violation.{is_violated}
 use Rattle.mg_meaning.specs.Listing.{violated_in}
 use Rattle.mg_meaning.specs.Parts.{parts_of, IsSmaller}
-use Rattle.mg_meaning.specs.Deciding.{is_none, is_satisfying, is_least}
+use Rattle.mg_meaning.specs.Deciding.{is_empty, is_satisfying, is_least}
 use Rattle.mg_meaning.proofs.Lists.{Among, among_from, among-flat_map, Contains-first}
 use Rattle.mg_meaning.proofs.Excluded.{satisfied_fine, satisfies_where_saturated}
 use Rattle.mg_meaning.proofs.Listings.{violated_exact}
 use Rattle.mg_meaning.proofs.LeastSteps.{none_listed}
 use Rattle.mg_meaning.proofs.PartsTried.{minimal_test, satisfies_same}
 
-empty_from : (insts : List Inst) → is_none insts ≡ true → insts ≡ []
+empty_from : (insts : List Inst) → is_empty insts ≡ true → insts ≡ []
 empty_from [] e = refl
 empty_from (inst ∷ insts) e = absurd (true≢false (sym e))
 
-none_from : (problem : ProblemData) (set : List Lit) (insts : List Inst) → ((inst : Inst) → Contains insts inst ↔ (IsInstance problem inst × IsTrue (is_violated set inst))) → Satisfies set problem → is_none insts ≡ true
+none_from : (problem : ProblemData) (set : List Lit) (insts : List Inst) → ((inst : Inst) → Contains insts inst ↔ (IsInstance problem inst × IsTrue (is_violated set inst))) → Satisfies set problem → is_empty insts ≡ true
 none_from problem set [] exact satisfied = refl
 none_from problem set (inst ∷ insts) exact satisfied =
     let own = (exact inst).0 (Contains-first inst insts) in
@@ -34,12 +34,12 @@ none_from problem set (inst ∷ insts) exact satisfied =
 pub satisfying_decided : (problem : ProblemData) → IsProblem problem → (set : List Lit) → IsTrue (is_satisfying problem set) ↔ Satisfies set problem
 satisfying_decided problem real set = (
   (λ e.
-      let first = both_true (is_clash_free set) (are_literals problem.symbols set && is_none (violated_in problem set)) e in
-      let second = both_true (are_literals problem.symbols set) (is_none (violated_in problem set)) first.1 in
+      let first = both_true (is_clash_free set) (are_literals problem.symbols set && is_empty (violated_in problem set)) e in
+      let second = both_true (are_literals problem.symbols set) (is_empty (violated_in problem set)) first.1 in
       (satisfies_where_saturated set problem).1 (first.0, second.0, none_listed problem set (violated_in problem set) (violated_exact problem real set) (empty_from (violated_in problem set) second.1))),
   (λ satisfied.
-      and_true (is_clash_free set) (are_literals problem.symbols set && is_none (violated_in problem set)) satisfied.consistent
-      (and_true (are_literals problem.symbols set) (is_none (violated_in problem set)) satisfied.fitting (none_from problem set (violated_in problem set) (violated_exact problem real set) satisfied))),
+      and_true (is_clash_free set) (are_literals problem.symbols set && is_empty (violated_in problem set)) satisfied.consistent
+      (and_true (are_literals problem.symbols set) (is_empty (violated_in problem set)) satisfied.fitting (none_from problem set (violated_in problem set) (violated_exact problem real set) satisfied))),
 )
 
 -- of some parts, the first that is smaller, or none is

@@ -2,7 +2,9 @@ pub mod Accepting
 pub mod Answering
 pub mod Bindings
 pub mod Binds
+pub mod ClauseTruth
 pub mod Decided
+pub mod Enough
 pub mod Examples
 pub mod Excluded
 pub mod FormSteps
@@ -11,10 +13,13 @@ pub mod Fronts
 pub mod Herbrand
 pub mod InstOrders
 pub mod LeastSteps
+pub mod LightInsts
 pub mod Listings
 pub mod Lists
 pub mod Matchings
 pub mod MinimalLists
 pub mod PartsTried
+pub mod PlainCovers
 pub mod PlainShapes
+pub mod Room
 pub mod Terms

@@ -10,13 +10,13 @@ use Rattle.mg_meaning.specs.Listing.{violated_in}
 use Rattle.mg_meaning.specs.Parts.{parts_of}
 
 -- no instance is in the list
-abbrev pub is_none : List Inst → Bool
-is_none [] = true
-is_none (inst ∷ insts) = false
+abbrev pub is_empty : List Inst → Bool
+is_empty [] = true
+is_empty (inst ∷ insts) = false
 
 -- clash free, over the problem's symbols, and no violated instance is listed
 abbrev pub is_satisfying : ProblemData → List Lit → Bool
-is_satisfying problem set = is_clash_free set && (are_literals problem.symbols set && is_none (violated_in problem set))
+is_satisfying problem set = is_clash_free set && (are_literals problem.symbols set && is_empty (violated_in problem set))
 
 -- no proper part among all parts passes the same test
 abbrev pub is_least : ProblemData → List Lit → Bool

@@ -16,14 +16,14 @@ passes set literals barred = is_part literals set && not (meets barred set)
 abbrev pub obeys : List Inst → List Lit → Bool
 obeys insts set = list_all (λ inst. not (is_violated set inst)) insts
 
--- no clash-free set that obeys the instances holds all of the inside and nothing of the outside
+-- no clash-free set, of whatever literals, that obeys the instances holds all of the inside and nothing of the outside
 abbrev pub ExcludesBy : List Inst → List Lit → List Lit → Type 0
 ExcludesBy insts inside outside = (set : List Lit) → IsTrue (is_clash_free set) → IsTrue (obeys insts set) → passes set inside outside ≡ false
 
--- no set that satisfies the problem does
+-- no set that satisfies the problem holds all of the inside and nothing of the outside
 abbrev pub Excludes : ProblemData → List Lit → List Lit → Type 0
 Excludes problem inside outside = (set : List Lit) → Satisfies set problem → passes set inside outside ≡ false
 
--- each clash-free set that obeys the instances includes one of the sets
+-- each clash-free set, of whatever literals, that obeys the instances includes one of the sets
 abbrev pub Covers : List Inst → List (List Lit) → Type 0
 Covers insts sets = (set : List Lit) → IsTrue (is_clash_free set) → IsTrue (obeys insts set) → IsTrue (list_any (λ listed. is_part listed set) sets)

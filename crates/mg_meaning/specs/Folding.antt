@@ -5,7 +5,7 @@ use Rattle.mg_word.specs.Words.{complement_of}
 use Rattle.mg_word.specs.declared.lit.Lit.{Lit}
 use Rattle.mg_word.specs.declared.form.Inst.{Inst}
 
--- two sets, inside and outside: what holds the one meets the other
+-- a lemma: a set that holds all of the inside holds something of the outside
 pub record Pair : Type 0 where
   pub inside : List Lit
   pub outside : List Lit

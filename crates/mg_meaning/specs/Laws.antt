@@ -1,5 +1,5 @@
 -- Laws of the definitions, each of which a public function of this crate states as its contract.
-use Rattle.std.specs.Prelude.{◌≡◌, ◌≢◌, ◌↔◌, ◌⊎◌, ℕ, ◌<◌, false, List, [], ◌∷◌, ◌++◌, length, take, Option, All, AllPairs, Contains, IsTrue}
+use Rattle.std.specs.Prelude.{◌≡◌, ◌≢◌, ◌↔◌, ◌⊎◌, ℕ, ◌<◌, ◌≤◌, false, List, [], ◌∷◌, ◌++◌, length, map, take, Option, All, AllPairs, Contains, IsTrue}
 use Rattle.std.specs.Cmp.{IsTotalOrder}
 use Rattle.std.specs.List.{list_any}
 use Rattle.std.specs.declared.cmp.Ordering.TheVariants.{Equal}
@@ -12,17 +12,18 @@ use Rattle.mg_word.specs.declared.lit.Lit.{Lit}
 use Rattle.mg_word.specs.declared.form.Form.{Form}
 use Rattle.mg_word.specs.declared.form.Inst.{Inst}
 use Rattle.mg_meaning.specs.Truth.{Ground, makes_true, atoms_of}
-use Rattle.mg_meaning.specs.Refuting.{IsClauseInstance}
+use Rattle.mg_meaning.specs.Refuting.{IsClauseInstance, Refutes, ground_of}
 use Rattle.mg_meaning.specs.Instances.{are_literals, IsInstance}
 use Rattle.mg_meaning.specs.Satisfaction.{Satisfies}
 use Rattle.mg_meaning.specs.Minimality.{IsMinimal, ListsMinimal}
 use Rattle.mg_meaning.specs.Deciding.{is_satisfying, is_least}
 use Rattle.mg_meaning.specs.Violation.{weight_of, inst_cmp, IsLeast, IsSaturated}
-use Rattle.mg_meaning.specs.Excluding.{ExcludesBy, Excludes, Covers}
+use Rattle.mg_meaning.specs.Excluding.{passes, ExcludesBy, Excludes, Covers}
 use Rattle.mg_meaning.specs.Folding.{Pair, folded, rejecting, clashing, barring}
 use Rattle.mg_meaning.specs.Matches.{terms_of, IsPrefixMatch}
 use Rattle.mg_meaning.specs.Matching.{matches}
-use Rattle.mg_meaning.specs.PlainTree.{Plain}
+use Rattle.mg_meaning.specs.Bound.{bound, positive_weight}
+use Rattle.mg_meaning.specs.PlainTree.{Shape, IsPlain, Plain, saturated_in}
 
 -- the order of sets is total, and only equal sets tie
 pub record OrdersSets : Type 0 where
@@ -106,3 +107,17 @@ IncludesMinimal = (problem : ProblemData) → IsProblem problem → (set : List 
 -- where the least violated instance weighs more than the limit, the plain tree has no number of extensions
 abbrev pub HeavyHasNoPlain : Type 0
 HeavyHasNoPlain = (problem : ProblemData) (weight : ℕ) (held barred : List Lit) (inst : Inst) → IsLeast problem held inst → weight < weight_of inst → (count : ℕ) → Plain problem weight held barred count → ⊥
+
+-- where instances of the problem cover nothing, the instances of their clauses refute it
+abbrev pub CoveringNoneRefutes : Type 0
+CoveringNoneRefutes = (problem : ProblemData) → IsProblem problem → (insts : List Inst) → All (IsInstance problem) insts → Covers insts [] → Refutes (map (ground_of problem) insts) problem
+
+-- a satisfying set that passes a node includes the literals of a saturated node of the plain tree from there
+abbrev pub PlainIncludes : Type 0
+PlainIncludes = (problem : ProblemData) (weight : ℕ) (held barred : List Lit) (shape : Shape) → IsPlain problem weight held barred shape
+    → (set : List Lit) → Satisfies set problem → IsTrue (passes set held barred) → IsTrue (list_any (λ listed. is_part listed set) (saturated_in held shape))
+
+-- where ground instances whose positive literals weigh at most so much refute, the plain tree within that weight has at most the bound's number of extensions
+abbrev pub BoundIsEnough : Type 0
+BoundIsEnough = (problem : ProblemData) → IsProblem problem → (instances : List Ground) → Refutes instances problem → (light weight : ℕ) → light ≤ weight
+    → All (λ instance. positive_weight problem.clauses instance ≤ light) instances → (count : ℕ) × Plain problem weight [] [] count × (count ≤ bound problem light)

@@ -35,7 +35,7 @@ abbrev mutual
 abbrev pub is_closed_at_once : List Lit → List Lit → Lit → Bool
 is_closed_at_once held barred conclusion = holds held (complement_of conclusion) || holds barred conclusion
 
--- the tree from these literals, in path order, and this barred set has that shape; it has none where a heavier instance comes up
+-- the tree from these literals, in path order, and this barred set has that shape; it has none where a least violated instance weighs more than the limit
 abbrev mutual
   pub IsPlain : ProblemData → ℕ → List Lit → List Lit → Shape → Type 0
   IsPlain problem weight held barred saturated = IsSaturated problem held
@@ -58,3 +58,18 @@ abbrev mutual
 -- the plain tree from these literals and this barred set has so many extensions
 abbrev pub Plain : ProblemData → ℕ → List Lit → List Lit → ℕ → Type 0
 Plain problem weight held barred count = (shape : Shape) × IsPlain problem weight held barred shape × (extends_in shape ≡ count)
+
+-- the literals of the saturated nodes of a tree from these literals
+abbrev mutual
+  pub saturated_in : List Lit → Shape → List (List Lit)
+  saturated_in held saturated = held ∷ []
+  saturated_in held (rejected inst) = []
+  saturated_in held (split inst children) = saturated_in_all held inst.conclusions children
+
+  pub saturated_in_all : List Lit → List Lit → Shapes → List (List Lit)
+  saturated_in_all held [] none = []
+  saturated_in_all held [] (shut children) = []
+  saturated_in_all held [] (child shape children) = []
+  saturated_in_all held (conclusion ∷ conclusions) none = []
+  saturated_in_all held (conclusion ∷ conclusions) (shut children) = saturated_in_all held conclusions children
+  saturated_in_all held (conclusion ∷ conclusions) (child shape children) = saturated_in (held ++ conclusion ∷ []) shape ++ saturated_in_all held conclusions children

@@ -1,6 +1,6 @@
 //! The laws of the definitions: each function states one as its contract and does nothing.
 
-ghost use Rattle.mg_meaning.specs.Laws.{OrdersSets, OrdersInstances, RisingIsUnique, LeastIsUnique, SatisfiesWhereSaturated, MinimalListIsUnique, IsHerbrandModel, InstancesExclude, InstancesCover, FoldExcludes, LeavesExclude, PlainIsUnique, MatchesAreExact, MatchesGrow, SatisfyingIsDecided, IncludesMinimal, HeavyHasNoPlain};
+ghost use Rattle.mg_meaning.specs.Laws.{OrdersSets, OrdersInstances, RisingIsUnique, LeastIsUnique, SatisfiesWhereSaturated, MinimalListIsUnique, IsHerbrandModel, InstancesExclude, InstancesCover, FoldExcludes, LeavesExclude, PlainIsUnique, MatchesAreExact, MatchesGrow, SatisfyingIsDecided, IncludesMinimal, HeavyHasNoPlain, CoveringNoneRefutes, PlainIncludes, BoundIsEnough};
 
 /// The order of sets is total, and only equal sets tie.
 pub fn sets_are_ordered()
@@ -47,6 +47,11 @@ pub fn instances_cover()
     ensures { InstancesCover }
 {}
 
+/// Where instances of a problem cover nothing, the instances of their clauses refute it.
+pub fn covering_none_refutes()
+    ensures { CoveringNoneRefutes }
+{}
+
 /// The pair folded from the children's pairs excludes where each of those does.
 pub fn folded_pair_excludes()
     ensures { FoldExcludes }
@@ -85,4 +90,14 @@ pub fn satisfying_includes_minimal()
 /// The plain tree has no number of extensions where the least violated instance is too heavy.
 pub fn heavy_has_no_plain_tree()
     ensures { HeavyHasNoPlain }
+{}
+
+/// A satisfying set that passes a node includes the literals of a saturated node of the plain tree from there.
+pub fn plain_tree_includes_saturated()
+    ensures { PlainIncludes }
+{}
+
+/// Where light ground instances refute, the plain tree has at most the bound's number of extensions.
+pub fn bound_is_enough()
+    ensures { BoundIsEnough }
 {}
