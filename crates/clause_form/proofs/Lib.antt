@@ -4,6 +4,7 @@ pub mod FormFacts
 pub mod FormLists
 pub mod Formed
 pub mod InputFacts
+pub mod OneProblem
 pub mod Reaching
 pub mod Renumbered
 pub mod SideLaws

@@ -11,7 +11,7 @@ mod sides;
 mod variables;
 
 pub use fault::FormFault;
-pub use laws::one_fault;
+pub use laws::{one_fault, one_problem};
 pub use line::form_text;
 pub use problem::forms_of;
 pub use variables::free_variable;

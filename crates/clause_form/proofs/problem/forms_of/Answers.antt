@@ -1,4 +1,4 @@
-use Rattle.std.proofs.Common.{◌≡◌, All, List, sym, subst, ◌∙◌, ap}
+use Rattle.std.proofs.Common.{◌≡◌, ◌≢◌, All, AllPairs, List, sym, subst, ◌∙◌, ap}
 use Rattle.mg_word.specs.Facts.{InputData}
 use Rattle.mg_word.specs.Forms.{forms_of}
 use Rattle.mg_word.specs.declared.clause.Clause.{Clause}
@@ -7,6 +7,7 @@ use Rattle.clause_form.specs.Faults.{Stands, is_faultless}
 use Rattle.clause_form.specs.Forming.{IsFormed}
 use Rattle.clause_form.specs.Renumbering.{renumbered}
 use Rattle.clause_form.proofs.Formed.{input_kept, few_parts, copied_from, IsMade, made_problem, made_formed, copied_stands, none_formed}
+use Rattle.clause_form.proofs.OneProblem.{one_problem}
 use Rattle.clause_form.proofs.problem.forms_of.Goals as goal
 
 pub all_forms-requires-clause-sizes : goal.all_forms-requires-clause-sizes
@@ -60,3 +61,8 @@ returns-clause-answer c =
       faultless = ap (λ (cs : List Clause). is_faultless cs) (sym c.as_slice-3.ensures) ∙ c.in-Ok.ensures.1;
     } in
     subst (λ (input : InputData). IsFormed input (record { symbols = c.in_ok-symbols.symbols; files = c.in_ok-files.files; clauses = c.in_ok-clauses.clauses; forms = c.new.result })) c.input.view_is (made_formed c.input.inside.symbols c.input.inside.files c.input.inside.clauses c.in_ok-symbols.symbols c.in_ok-symbols.numbers.items c.in_ok-files.files c.in_ok-clauses.clauses c.new.result made)
+
+pub returns-clause-only : goal.returns-clause-only
+returns-clause-only c =
+    let different : AllPairs (λ a b. a ≢ b) c.args.input.now.symbols = subst (λ (input : InputData). AllPairs (λ a b. a ≢ b) input.symbols) c.input.view_is c.len-2.ensures.different in
+    λ other formed. one_problem c.args.input.now different other _ formed (returns-clause-answer c)
