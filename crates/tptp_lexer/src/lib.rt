@@ -1,0 +1,21 @@
+//! The tokens of TPTP clause files, with their places.
+#![tactic(auto)]
+
+mod bytes;
+mod comments;
+mod cursor;
+mod laws;
+mod lexer;
+mod numbers;
+mod piece;
+mod quotes;
+mod spot;
+#[cfg(test)]
+mod tests;
+mod token;
+
+pub use cursor::{Cursor, next_token};
+pub use laws::{tokens_cut_the_text, tokens_stand_at_their_places};
+pub use lexer::Lexer;
+pub use spot::Spot;
+pub use token::{LexFault, LexKind, Token, TokenKind};
