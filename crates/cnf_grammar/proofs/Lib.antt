@@ -1,0 +1,16 @@
+mod Accepting
+mod Rests
+mod Accepted
+mod AcceptedNotes
+mod AcceptedFiles
+mod Spelled
+mod SpelledFiles
+mod Completed
+mod Joined
+mod Examples
+mod Readings
+mod OneTerm
+mod OneFile
+mod Variables
+mod Collected
+mod Drafted

@@ -1,0 +1,10 @@
+pub mod Shapes
+pub mod Trees
+pub mod Spelling
+pub mod Table
+pub mod Laws
+pub mod Seen
+pub mod Moving
+pub mod Conclude
+pub mod Meaning
+pub mod Draft

@@ -1,0 +1,57 @@
+//! The laws that join the table to the grammar. The functions do nothing: each is called for what it ensures.
+
+ghost use Rattle.std.specs.Prelude.{◌≡◌, true, List, [], ◌∷◌, ◌++◌, Some, None, IsSome, ◌↔◌};
+ghost use Rattle.cnf_grammar.specs.declared.place.Place.{Place};
+ghost use Rattle.cnf_grammar.specs.Shapes.{Shape, Punct, comma, right_round};
+ghost use Rattle.cnf_grammar.specs.Trees.{Statement, Formula};
+ghost use Rattle.cnf_grammar.specs.Spelling.{spell, spell_formula, IsFile, IsFront};
+ghost use Rattle.cnf_grammar.specs.Table.{to, step, run, start, is_end};
+ghost use Rattle.cnf_grammar.specs.declared.mode.Mode.TheVariants.{FormulaStart};
+ghost use Rattle.cnf_grammar.specs.Draft.{empty_draft, collect_from, draft_of};
+ghost use Rattle.cnf_grammar.specs.Laws.{LeadsToEnd, StopsAt, IsFirstFault};
+
+/// The tokens that a tree spells lead from the start to a place where a file may end.
+pub fn each_file_is_accepted()
+    ensures { (file : List Statement) → LeadsToEnd start (spell file) }
+{}
+
+/// Tokens that lead from the start to a place where a file may end, some tree spells.
+pub fn only_files_are_accepted()
+    ensures { (tokens : List Shape) → LeadsToEnd start tokens → IsFile tokens }
+{}
+
+/// From each place some tokens lead to one where a file may end.
+pub fn each_place_can_be_completed()
+    ensures { (p : Place) → (tokens : List Shape) × LeadsToEnd p tokens }
+{}
+
+/// Tokens lead from the start to some place exactly where they are the front of some file.
+pub fn fronts_lead_on()
+    ensures { (tokens : List Shape) → IsSome (run start tokens) ↔ IsFront tokens }
+{}
+
+/// The table stops at a token exactly where the tokens before it are the front of some file and
+/// those up to it are not.
+pub fn stops_at_first_fault()
+    ensures { (tokens : List Shape) (s : Shape) → StopsAt tokens s ↔ IsFirstFault tokens s }
+{}
+
+/// Where tokens lead to a place, what the table says of that place is what the grammar says of the
+/// tokens: where the next token leads, whether it can come, and whether the file may end here.
+pub fn place_tells_what_may_come()
+    ensures next { (tokens : List Shape) (p : Place) (s : Shape) → run start tokens ≡ Some p → run start (tokens ++ s ∷ []) ≡ step p s }
+    ensures stop { (tokens : List Shape) (p : Place) (s : Shape) → run start tokens ≡ Some p → (step p s ≡ None) ↔ (IsFront (tokens ++ s ∷ []) → ⊥) }
+    ensures end { (tokens : List Shape) (p : Place) → run start tokens ≡ Some p → (is_end p ≡ true) ↔ IsFile tokens }
+{}
+
+/// No two trees spell the same tokens, so tokens have at most one meaning.
+pub fn each_file_has_one_tree()
+    ensures { (file other : List Statement) → spell file ≡ spell other → file ≡ other }
+{}
+
+/// What the tokens of a formula add to an empty draft, up to the mark behind the formula, is what
+/// the formula's tree says: its literals with their symbols, and its variables.
+pub fn each_formula_leaves_its_literals()
+    ensures comma { (formula : Formula) (p : Place) → collect_from (Some (to FormulaStart p)) empty_draft (spell_formula formula ++ Punct comma ∷ []) ≡ draft_of formula }
+    ensures bracket { (formula : Formula) (p : Place) → collect_from (Some (to FormulaStart p)) empty_draft (spell_formula formula ++ Punct right_round ∷ []) ≡ draft_of formula }
+{}

@@ -1,0 +1,23 @@
+//! The grammar of problem files in clause normal form: what a file is, and the table that follows it token by token.
+#![tactic(auto)]
+
+mod annotations;
+mod brackets;
+mod formulas;
+mod laws;
+mod lexeme;
+mod mode;
+mod place;
+mod statements;
+#[cfg(test)]
+mod tests;
+
+pub use brackets::{Bracket, Brackets};
+pub use laws::{
+    each_file_has_one_tree, each_file_is_accepted, each_formula_leaves_its_literals,
+    each_place_can_be_completed, fronts_lead_on, only_files_are_accepted,
+    place_tells_what_may_come, stops_at_first_fault,
+};
+pub use lexeme::Lexeme;
+pub use mode::Mode;
+pub use place::Place;

@@ -1,0 +1,83 @@
+//! Tests: whole token lists go where a reader by hand says, with memory at hand.
+
+use crate::{Bracket, Brackets, Lexeme, Mode, Place};
+use mg_word::NoMemory;
+use std::alloc::Global;
+use std::test::Fail;
+use tptp_lexer::TokenKind;
+
+/// The token of these bytes, by their first one.
+fn token(text: &[u8]) -> (TokenKind, bool) {
+    match text {
+        [b'a'..=b'z', ..] => (TokenKind::Lower, false),
+        [b'A'..=b'Z', ..] => (TokenKind::Upper, false),
+        [b'0'..=b'9', ..] => (TokenKind::Number, true),
+        [b'\'', ..] => (TokenKind::Quoted, false),
+        [b'"', ..] => (TokenKind::Distinct, false),
+        [b'$', ..] => (TokenKind::Dollar, false),
+        [byte, ..] => (TokenKind::Punct(*byte), false),
+        [] => (TokenKind::NotEqual, false),
+    }
+}
+
+/// The mode that the tokens between the spaces lead to, if they lead on.
+fn follow(alloc: Global, spaced: &[u8]) -> Result<Option<Mode>, NoMemory> {
+    let mut place = Place::start(alloc);
+    for text in spaced.split(|byte| *byte == b' ') {
+        if place.level > 99 || place.depth > 99 {
+            return Ok(None);
+        }
+        let (kind, plain) = token(text);
+        if !place.advance(kind, text, plain)? {
+            return Ok(None);
+        }
+    }
+    Ok(Some(place.mode))
+}
+
+#[test]
+fn follows_token_lists(rt: HostRuntime) -> Result<(), Fail> {
+    let rows: [(&[u8], Option<Mode>); 14] = [
+        (b"cnf ( a , axiom , p | ~ q ) .", Some(Mode::Statement)),
+        (
+            b"cnf ( 7 , axiom , ( p ( X , f ( 'bc' ) , \"d\" , 0 ) ) ) .",
+            Some(Mode::Statement),
+        ),
+        (
+            b"cnf ( a , axiom , $true , s ( [ x , ( ) ] ) , [ i , [ ] ] ) .",
+            Some(Mode::Statement),
+        ),
+        (b"include ( 'a.ax' , [ a , 7 ] ) .", Some(Mode::Statement)),
+        (b"include ( a ) . cnf", Some(Mode::ClauseWord)),
+        (b"cnf ( a , axiom , p ( X", Some(Mode::TermRead)),
+        (b"cnf ( a , axiom , p , s ( [", Some(Mode::Source)),
+        (b"cnf ( a , axiom , ~ ~", None),
+        (b"cnf ( a , axiom , p ( )", None),
+        (b"cnf ( a , axiom , p , s ( ]", None),
+        (b"cnf ( a , axiom , p , ,", None),
+        (b"cnf ( a , axiom , p ) cnf", None),
+        (b"include ( ''", None),
+        (b"fof", None),
+    ];
+    for (row, (tokens, mode)) in rows.into_iter().enumerate() {
+        assert_eq!(rt; follow(rt.alloc(), tokens)?, mode, "at row {row}");
+    }
+    Ok(())
+}
+
+#[test]
+fn keeps_brackets(rt: HostRuntime) -> Result<(), Fail> {
+    let mut brackets = Brackets::empty(rt.alloc());
+    brackets.push(Bracket::Round)?;
+    brackets.push(Bracket::Square)?;
+    assert_eq!(rt; brackets.innermost(), Some(Bracket::Square));
+    brackets.close();
+    assert_eq!(rt; brackets.innermost(), Some(Bracket::Round));
+    brackets.restart(Bracket::Square)?;
+    assert_eq!(rt; brackets.innermost(), Some(Bracket::Square));
+    brackets.clear();
+    assert_eq!(rt; brackets.innermost(), None);
+    brackets.restart(Bracket::Round)?;
+    assert_eq!(rt; brackets.innermost(), Some(Bracket::Round));
+    Ok(())
+}
