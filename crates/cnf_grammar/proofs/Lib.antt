@@ -14,3 +14,4 @@ mod OneFile
 mod Variables
 mod Collected
 mod Drafted
+mod ItemLaws

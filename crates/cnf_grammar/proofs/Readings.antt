@@ -1,9 +1,9 @@
 -- What small statements say, as worked by hand.
-use Rattle.std.proofs.Common.{◌≡◌, true, false, [], ◌∷◌, Some, None, codes, refl}
+use Rattle.std.proofs.Common.{◌≡◌, ℕ, suc, Bool, true, false, List, [], ◌∷◌, ◌++◌, Option, Some, None, codes, refl}
 use Rattle.cnf_grammar.specs.declared.brackets.Bracket.TheVariants.{Round, Square}
 use Rattle.cnf_grammar.specs.Shapes.{Lower, Number, Punct, left_round, right_round, left_square, right_square, comma}
 use Rattle.cnf_grammar.specs.Trees.{bare_word, quoted_word, quoted_file, variable, compound, no_arguments, arguments, no_terms, then_term, truth, falsity, predicate, positive, negative, Formula, bracketed, disjunction, no_tokens, then_token, then_group, single, group, Annotations, annotations, every_clause, include}
-use Rattle.cnf_grammar.specs.Conclude.{conclude_item, rises_above, names_literal, conclusions_of}
+use Rattle.cnf_grammar.specs.Conclude.{conclude_item, are_conclusions_above, words_of, names_literal, conclusions_of}
 use Rattle.cnf_grammar.specs.Meaning.{unquoted, word_kind, symbol_item, variable_item, variables_of, never, signed, clause_literal, meaning, read_include}
 
 -- 'it\'s' is it's
@@ -49,22 +49,34 @@ two_items = refl
 empty_item : conclude_item [] ≡ Lower (codes "conclude") ∷ (Punct left_round ∷ (Punct left_square ∷ (Punct right_square ∷ (Punct right_round ∷ []))))
 empty_item = refl
 
--- numbers rise strictly from 1
-not_rising : rises_above 0 (2 ∷ (2 ∷ [])) ≡ false
-not_rising = refl
-
-no_zero : rises_above 0 (0 ∷ []) ≡ false
-no_zero = refl
-
 -- p | $false has one literal that a number may name
-first_named : names_literal (positive (predicate (bare_word (codes "p")) no_arguments) ∷ (positive falsity ∷ [])) 1 ≡ true
+abbrev one_word : List Bool
+one_word = words_of (disjunction (positive (predicate (bare_word (codes "p")) no_arguments)) (positive falsity ∷ []))
+
+first_named : names_literal one_word 1 ≡ true
 first_named = refl
 
-second_not_named : names_literal (positive (predicate (bare_word (codes "p")) no_arguments) ∷ (positive falsity ∷ [])) 2 ≡ false
+second_not_named : names_literal one_word 2 ≡ false
 second_not_named = refl
 
-third_not_named : names_literal (positive (predicate (bare_word (codes "p")) no_arguments) ∷ (positive falsity ∷ [])) 3 ≡ false
+third_not_named : names_literal one_word 3 ≡ false
 third_not_named = refl
+
+-- numbers rise strictly from 1
+abbrev three_words : List Bool
+three_words = true ∷ (true ∷ (true ∷ []))
+
+rising : are_conclusions_above three_words 0 (1 ∷ (3 ∷ [])) ≡ true
+rising = refl
+
+not_rising : are_conclusions_above three_words 0 (2 ∷ (2 ∷ [])) ≡ false
+not_rising = refl
+
+no_zero : are_conclusions_above three_words 0 (0 ∷ []) ≡ false
+no_zero = refl
+
+no_fourth : are_conclusions_above three_words 0 (1 ∷ (4 ∷ [])) ≡ false
+no_fourth = refl
 
 -- include('a b').
 included : meaning (include (quoted_file (codes "'a b'") refl) every_clause) ≡ read_include (codes "a b") None

@@ -25,28 +25,23 @@ abbrev pub gives_conclusions : List Shape → Bool
 gives_conclusions (word ∷ mark ∷ more) = is_keyword (codes "conclude") word && is_mark left_round mark
 gives_conclusions _ = false
 
--- a plain number
-abbrev pub number_token : ℕ → Shape
-number_token k = Number (decimal k) true
-
--- further numbers, each behind a comma
-abbrev pub spell_more_numbers : List ℕ → List Shape
+-- further plain numbers, each behind a comma
+abbrev pub spell_more_numbers : List (List ℕ) → List Shape
 spell_more_numbers [] = []
-spell_more_numbers (k ∷ ks) = Punct comma ∷ (number_token k ∷ spell_more_numbers ks)
+spell_more_numbers (text ∷ more) = Punct comma ∷ (Number text true ∷ spell_more_numbers more)
 
--- numbers with commas between them
-abbrev pub spell_numbers : List ℕ → List Shape
+-- plain numbers with commas between them
+abbrev pub spell_numbers : List (List ℕ) → List Shape
 spell_numbers [] = []
-spell_numbers (k ∷ ks) = number_token k ∷ spell_more_numbers ks
+spell_numbers (text ∷ more) = Number text true ∷ spell_more_numbers more
+
+-- ]) at the end
+abbrev pub item_end : List Shape
+item_end = Punct right_square ∷ (Punct right_round ∷ [])
 
 -- conclude([k1,..,kr])
-abbrev pub conclude_item : List ℕ → List Shape
-conclude_item ks = Lower (codes "conclude") ∷ (Punct left_round ∷ (Punct left_square ∷ (spell_numbers ks ++ Punct right_square ∷ (Punct right_round ∷ []))))
-
--- whether the numbers rise strictly, from above this one
-abbrev pub rises_above : ℕ → List ℕ → Bool
-rises_above low [] = true
-rises_above low (k ∷ ks) = nat_lt low k && rises_above k ks
+abbrev pub conclude_item : List (List ℕ) → List Shape
+conclude_item texts = Lower (codes "conclude") ∷ (Punct left_round ∷ (Punct left_square ∷ (spell_numbers texts ++ item_end)))
 
 -- whether a literal has a word for its atom, and neither $true nor $false
 abbrev pub has_word : Literal → Bool
@@ -54,37 +49,50 @@ has_word (positive (predicate word args)) = true
 has_word (negative (predicate word args)) = true
 has_word _ = false
 
--- whether the literal at this place, counted from 0, has a word for its atom
-abbrev pub has_word_at : List Literal → ℕ → Bool
+-- which literals of a formula have a word for their atoms
+abbrev pub words_of : Formula → List Bool
+words_of formula = map has_word (literals_of formula)
+
+-- whether the literal at this place, counted from 0, is there and has a word
+abbrev pub has_word_at : List Bool → ℕ → Bool
 has_word_at [] place = false
-has_word_at (literal ∷ more) zero = has_word literal
-has_word_at (literal ∷ more) (suc place) = has_word_at more place
+has_word_at (word ∷ words) zero = word
+has_word_at (word ∷ words) (suc place) = has_word_at words place
 
--- whether the number, counted from 1, names a literal that has a word for its atom
-abbrev pub names_literal : List Literal → ℕ → Bool
-names_literal literals zero = false
-names_literal literals (suc place) = has_word_at literals place
+-- whether the number, counted from 1, names a literal that has a word
+abbrev pub names_literal : List Bool → ℕ → Bool
+names_literal words zero = false
+names_literal words (suc place) = has_word_at words place
 
--- the numbers may be conclusions of these literals: they rise strictly, and each names a literal that has a word
-pub record AreConclusions (literals : List Literal) (ks : List ℕ) : Type 0 where
-  pub rising : rises_above 0 ks ≡ true
-  pub named : All (λ k. names_literal literals k ≡ true) ks
+-- whether the number may stand behind the last one: it is greater, and names a literal that has a word
+abbrev pub may_follow : List Bool → ℕ → ℕ → Bool
+may_follow words last k = nat_lt last k && names_literal words k
 
--- the item is conclude([k1,..,kr]) with numbers that may be conclusions of the literals
-abbrev pub IsConcludeItem : List Literal → List Shape → Type 0
-IsConcludeItem literals item = (ks : List ℕ) × (item ≡ conclude_item ks) × AreConclusions literals ks
+-- whether the numbers rise strictly from above the last one, and each names a literal that has a word
+abbrev pub are_conclusions_above : List Bool → ℕ → List ℕ → Bool
+are_conclusions_above words last [] = true
+are_conclusions_above words last (k ∷ ks) = may_follow words last k && are_conclusions_above words k ks
+
+-- the numbers that digits write
+abbrev pub values : List (List ℕ) → List ℕ
+values texts = map (digits_value 10) texts
+
+-- the item is conclude([k1,..,kr]), where the k are plain numbers that rise strictly from 1 on, and each names a literal that has a
+-- word; words tells which literals have one
+abbrev pub IsConcludeItem : List Bool → List Shape → Type 0
+IsConcludeItem words item = (texts : List (List ℕ)) × (item ≡ conclude_item texts) × (are_conclusions_above words 0 (values texts) ≡ true)
 
 -- the tokens are the front of such an item
-abbrev pub BeginsConcludeItem : List Literal → List Shape → Type 0
-BeginsConcludeItem literals tokens = (more : List Shape) × IsConcludeItem literals (tokens ++ more)
+abbrev pub BeginsConcludeItem : List Bool → List Shape → Type 0
+BeginsConcludeItem words tokens = (more : List Shape) × IsConcludeItem words (tokens ++ more)
 
 -- the token is the first of an item that gives conclusions by which no end of it can be right
-abbrev pub BreaksConcludeItem : List Literal → List Shape → Shape → Type 0
-BreaksConcludeItem literals tokens s = BeginsConcludeItem literals tokens × (BeginsConcludeItem literals (tokens ++ s ∷ []) → ⊥)
+abbrev pub BreaksConcludeItem : List Bool → List Shape → Shape → Type 0
+BreaksConcludeItem words tokens s = BeginsConcludeItem words tokens × (BeginsConcludeItem words (tokens ++ s ∷ []) → ⊥)
 
 -- each item of the annotations that gives conclusions is right; all others are passed over
 abbrev pub HasRightItems : Formula → Annotations → Type 0
-HasRightItems formula notes = All (λ item. gives_conclusions item ≡ true → IsConcludeItem (literals_of formula) item) (items_of notes)
+HasRightItems formula notes = All (λ item. gives_conclusions item ≡ true → IsConcludeItem (words_of formula) item) (items_of notes)
 
 -- the number of a number's token
 abbrev pub number_of_token : Shape → Option ℕ

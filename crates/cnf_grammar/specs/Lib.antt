@@ -8,3 +8,4 @@ pub mod Moving
 pub mod Conclude
 pub mod Meaning
 pub mod Draft
+pub mod Items

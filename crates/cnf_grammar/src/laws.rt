@@ -1,12 +1,14 @@
 //! The laws that join the table to the grammar. The functions do nothing: each is called for what it ensures.
 
-ghost use Rattle.std.specs.Prelude.{◌≡◌, true, List, [], ◌∷◌, ◌++◌, Some, None, IsSome, ◌↔◌};
+ghost use Rattle.std.specs.Prelude.{◌≡◌, ◌<◌, ◌^◌, Bool, true, false, length, List, [], ◌∷◌, ◌++◌, Some, None, IsSome, ◌↔◌};
 ghost use Rattle.cnf_grammar.specs.declared.place.Place.{Place};
 ghost use Rattle.cnf_grammar.specs.Shapes.{Shape, Punct, comma, right_round};
 ghost use Rattle.cnf_grammar.specs.Trees.{Statement, Formula};
 ghost use Rattle.cnf_grammar.specs.Spelling.{spell, spell_formula, IsFile, IsFront};
 ghost use Rattle.cnf_grammar.specs.Table.{to, step, run, start, is_end};
 ghost use Rattle.cnf_grammar.specs.declared.mode.Mode.TheVariants.{FormulaStart};
+ghost use Rattle.cnf_grammar.specs.Conclude.{gives_conclusions, IsConcludeItem, BeginsConcludeItem};
+ghost use Rattle.cnf_grammar.specs.Items.{item_start, item_closed, item_run};
 ghost use Rattle.cnf_grammar.specs.Draft.{empty_draft, collect_from, draft_of};
 ghost use Rattle.cnf_grammar.specs.Laws.{LeadsToEnd, StopsAt, IsFirstFault};
 
@@ -54,4 +56,12 @@ pub fn each_file_has_one_tree()
 pub fn each_formula_leaves_its_literals()
     ensures comma { (formula : Formula) (p : Place) → collect_from (Some (to FormulaStart p)) empty_draft (spell_formula formula ++ Punct comma ∷ []) ≡ draft_of formula }
     ensures bracket { (formula : Formula) (p : Place) → collect_from (Some (to FormulaStart p)) empty_draft (spell_formula formula ++ Punct right_round ∷ []) ≡ draft_of formula }
+{}
+
+/// The table of items passes over an item that gives no conclusions. In one that does, it leads on
+/// exactly as long as some end of the item is right, and stands at its end exactly where it is right.
+pub fn items_are_followed()
+    ensures other { (words : List Bool) (tokens : List Shape) → gives_conclusions tokens ≡ false → IsSome (item_run words (Some item_start) tokens) }
+    ensures front { (words : List Bool) (tokens : List Shape) → length words < 2 ^ 64 → gives_conclusions tokens ≡ true → IsSome (item_run words (Some item_start) tokens) ↔ BeginsConcludeItem words tokens }
+    ensures whole { (words : List Bool) (tokens : List Shape) → gives_conclusions tokens ≡ true → (item_run words (Some item_start) tokens ≡ Some item_closed) ↔ IsConcludeItem words tokens }
 {}
