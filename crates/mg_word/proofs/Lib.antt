@@ -1,1 +1,4 @@
 pub mod Entries
+pub mod Spellings
+pub mod Different
+pub mod Sorting

@@ -5,5 +5,8 @@ pub mod OrderLaws
 pub mod Orders
 pub mod Seen
 pub mod Sets
+pub mod Spelling
+pub mod SymbolLaws
+pub mod SymbolOrder
 pub mod Table
 pub mod Words

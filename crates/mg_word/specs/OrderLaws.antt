@@ -1,6 +1,6 @@
 -- The orders of words and literals are total, and tell apart what is different.
 use Rattle.std.specs.Prelude.{◌≡◌, ℕ, Bool, true, false, not, List, [], ◌∷◌, length, IsTrue}
-use Rattle.std.proofs.Common.{refl, sym, ◌∙◌, ap, subst, true≢false, arith}
+use Rattle.std.proofs.Common.{refl, sym, ◌∙◌, ap}
 use Rattle.std.specs.declared.cmp.Ordering.{Ordering}
 use Rattle.std.specs.declared.cmp.Ordering.TheVariants.{Less, Equal, Greater}
 use Rattle.std.specs.Ordering.{nat_cmp, bool_cmp, ordering_then, is_eq, eq_by_cmp}
@@ -21,7 +21,7 @@ lit_total = then_total (on_total (λ lit. lit.word) word_total) (on_total (λ li
 pub lits_total : IsTotalOrder lits_cmp
 lits_total = lists_total lit_total
 
-nat_same : (x y : ℕ) → nat_cmp x y ≡ Equal → x ≡ y
+pub nat_same : (x y : ℕ) → nat_cmp x y ≡ Equal → x ≡ y
 nat_same x y e = ranked x y Equal (sym e)
 
 bool_same : (x y : Bool) → bool_cmp x y ≡ Equal → x ≡ y
@@ -31,13 +31,13 @@ bool_same true false e = cc
 bool_same true true e = refl
 
 -- of two answers, neither tells apart where both together do not
-both_equal : (a b : Ordering) → ordering_then a b ≡ Equal → (a ≡ Equal) × (b ≡ Equal)
+pub both_equal : (a b : Ordering) → ordering_then a b ≡ Equal → (a ≡ Equal) × (b ≡ Equal)
 both_equal Less b e = cc
 both_equal Equal b e = (refl, e)
 both_equal Greater b e = cc
 
 -- where an order of elements tells different ones apart, so does that of lists
-slices_same : {A : Type 0} (cmp : A → A → Ordering) → ((x y : A) → cmp x y ≡ Equal → x ≡ y) → (xs ys : List A) → slice_cmp cmp xs ys ≡ Equal → xs ≡ ys
+pub slices_same : {A : Type 0} (cmp : A → A → Ordering) → ((x y : A) → cmp x y ≡ Equal → x ≡ y) → (xs ys : List A) → slice_cmp cmp xs ys ≡ Equal → xs ≡ ys
 slices_same cmp same [] [] e = refl
 slices_same cmp same [] (y ∷ ys) e = cc
 slices_same cmp same (x ∷ xs) [] e = cc
@@ -60,7 +60,7 @@ lit_same a b e =
 pub lits_same : (a b : List Lit) → lits_cmp a b ≡ Equal → a ≡ b
 lits_same a b e = slices_same lit_cmp lit_same a b e
 
-is_tie : (answer : Ordering) → is_eq answer ≡ true → answer ≡ Equal
+pub is_tie : (answer : Ordering) → is_eq answer ≡ true → answer ≡ Equal
 is_tie Less e = cc
 is_tie Equal e = refl
 is_tie Greater e = cc

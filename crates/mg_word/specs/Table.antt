@@ -1,5 +1,5 @@
 -- What contracts see of a symbol table.
-use Rattle.std.specs.Prelude.{◌≡◌, ℕ, List}
+use Rattle.std.specs.Prelude.{ℕ, List}
 use Rattle.mg_word.specs.declared.symbol.Kind.{Kind}
 
 -- a symbol: a name, the number of its arguments, and a kind

@@ -1,7 +1,9 @@
 //! Symbols, numbered by first entry.
 
-ghost use Rattle.std.specs.Prelude.{◌≡◌, ◌<◌, ◌-◌, ◌^◌, ◌↔◌, ◌++◌, [], ◌∷◌, length, slice_get, Contains, IfOk, OnOk, OnErr, IsNone, IsTrue, IfSome, Some};
+ghost use Rattle.std.specs.Prelude.{◌≡◌, ◌≢◌, All, AllPairs, IsPermutation, IsSorted, map, ◌<◌, ◌-◌, ◌^◌, ◌↔◌, ◌++◌, [], ◌∷◌, length, slice_get, Contains, IfOk, OnOk, OnErr, IsNone, IsTrue, IfSome, Some};
 ghost use Rattle.mg_word.specs.Table.{symbol_of};
+ghost use Rattle.mg_word.specs.Seen.{entry_seen};
+ghost use Rattle.mg_word.specs.SymbolOrder.{symbol_cmp, IsRenumbering, IsSortedTable};
 
 use crate::NoMemory;
 use indexmap::IndexSet;
@@ -9,7 +11,7 @@ use std::alloc::Global;
 use std::marker::Model;
 
 /// How a symbol was written.
-#[derive(Clone, Copy, Debug, PartialEq, Eq, Hash)]
+#[derive(Clone, Copy, Debug, PartialEq, Eq, PartialOrd, Ord, Hash)]
 pub enum Kind {
     /// A lower-case or quoted word: a predicate, a function or a constant.
     Word,
@@ -19,7 +21,7 @@ pub enum Kind {
     Distinct,
 }
 
-#[derive(Debug, Drop, PartialEq, Eq, Hash)]
+#[derive(Debug, Drop, PartialEq, Eq, PartialOrd, Ord, Hash)]
 struct Entry {
     name: String,
     arity: u32,
@@ -57,11 +59,12 @@ impl Symbols {
         })
     }
 
-    /// How many symbols are held.
+    /// How many symbols are held. They are all different.
     pub fn len(&self) -> u32
-        ensures { result ≡ length self.now }
+        ensures value { result ≡ length self.now }
+        ensures different { AllPairs (λ a b. a ≢ b) self.now }
     {
-        self.entries.len() as u32
+        self.entries.as_slice().len() as u32
     }
 
     /// Whether no symbol is held.
@@ -126,5 +129,82 @@ impl Symbols {
             Some(id) => Ok(Some(id as u32)),
             None => Ok(None),
         }
+    }
+
+    /// The same symbols in order, and the new number of each old one: by name as bytes, a prefix
+    /// first; then by arity; then words before numbers before texts.
+    pub fn sorted(&self) -> Result<(Symbols, Vec<u32>), NoMemory>
+        ensures { IfOk result (λ made. IsSortedTable self.now made.0 made.1.items) }
+    {
+        let sorted = Symbols::of_entries(self.alloc, self.sorted_entries()?)?;
+        let numbers = self.numbers_in(&sorted)?;
+        Ok((sorted, numbers))
+    }
+
+    // Copies of the entries, in order.
+    fn sorted_entries(&self) -> Result<Vec<Entry>, NoMemory>
+        ensures ordered { IfOk result (λ entries. IsSorted symbol_cmp (map entry_seen entries.items)) }
+        ensures permuted { IfOk result (λ entries. IsPermutation self.now (map entry_seen entries.items)) }
+        ensures different { IfOk result (λ entries. AllPairs (λ a b. a ≢ b) (map entry_seen entries.items)) }
+        ensures small { IfOk result (λ entries. length entries.items < 2 ^ 32) }
+    {
+        let mut entries = Vec::with_capacity(self.alloc, self.entries.len())?;
+        for entry in self.entries.as_slice() {
+            entries.push(entry.copy()?)?;
+        }
+        entries.sort()?;
+        Ok(entries)
+    }
+
+    // The table of these entries, in this order.
+    fn of_entries(alloc: Global, entries: Vec<Entry>) -> Result<Symbols, NoMemory>
+        requires small { length entries.items < 2 ^ 32 }
+        requires different { AllPairs (λ a b. a ≢ b) (map entry_seen entries.items) }
+        ensures { IfOk result (λ table. table ≡ map entry_seen entries.items) }
+    {
+        let mut set = IndexSet::with_capacity(alloc, entries.len())?;
+        for entry in entries {
+            set.insert_full(entry)?;
+        }
+        Ok(Symbols {
+            alloc,
+            entries: set,
+        })
+    }
+
+    // The numbers that the symbols have in another table.
+    fn numbers_in(&self, other: &Symbols) -> Result<Vec<u32>, NoMemory>
+        requires { All (Contains other.now) self.now }
+        ensures { IfOk result (λ numbers. IsRenumbering self.now other.now numbers.items) }
+    {
+        let mut numbers = Vec::with_capacity(self.alloc, self.entries.len())?;
+        for entry in self.entries.as_slice() {
+            numbers.push(other.number_of(entry))?;
+        }
+        Ok(numbers)
+    }
+
+    // The number of a symbol that the table has.
+    fn number_of(&self, entry: &Entry) -> u32
+        requires { Contains self.now (entry_seen entry.now) }
+        ensures { slice_get self.now result ≡ Some (entry_seen entry.now) }
+    {
+        match self.entries.get_index_of(entry) {
+            Some(id) => id as u32,
+            None => unreachable!(),
+        }
+    }
+}
+
+impl Entry {
+    // An equal entry.
+    fn copy(&self) -> Result<Entry, NoMemory>
+        ensures { IfOk result (λ entry. entry_seen entry ≡ entry_seen self.now) }
+    {
+        Ok(Entry {
+            name: self.name.clone()?,
+            arity: self.arity,
+            kind: self.kind,
+        })
     }
 }
