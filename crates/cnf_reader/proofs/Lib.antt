@@ -1,5 +1,1 @@
-pub mod Fronts
-pub mod Parsing
-pub mod Reaching
-pub mod Telling
-pub mod Tokens
+pub mod Drafting

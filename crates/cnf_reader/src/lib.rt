@@ -1,13 +1,11 @@
-//! The reader of problems: from the bytes of a file to clauses, or to a fault.
+//! The reader of problems: from the bytes of files to clauses, or to the first fault.
 #![tactic(auto)]
 
+mod draft;
 mod fault;
-mod lexer;
-mod parser;
-mod reading;
-mod statement;
-mod statements;
-mod token;
+mod kept;
+mod pending;
+mod selections;
+mod text;
 
 pub use fault::{ReadFault, ReadKind};
-pub use reading::read_problem;
