@@ -9,15 +9,6 @@ use Rattle.cnf_grammar.specs.Spelling.{spell_term, spell_arguments, spell_terms,
 use Rattle.cnf_grammar.specs.Table.{or_else, atom_start, literal_start, after_formula, after_term}
 use Rattle.cnf_grammar.proofs.Accepting.{place, AcceptsFrom, Accepts, passed, mark_is}
 
--- a test that holds, and one that does not
-pub taken : (test : Bool) (p : Place) (o : Option Place) (tokens : List Shape) → test ≡ true → Accepts p tokens → AcceptsFrom (or_else test p o) tokens
-taken true p o tokens h a = a
-taken false p o tokens h a = cc
-
-pub skipped : (test : Bool) (p : Place) (o : Option Place) (tokens : List Shape) → test ≡ false → AcceptsFrom o tokens → AcceptsFrom (or_else test p o) tokens
-skipped true p o tokens h a = cc
-skipped false p o tokens h a = a
-
 -- what may stand behind a term may stand behind a word
 no_left : (level depth : ℕ) (brackets : List Bracket) (tokens : List Shape) → AcceptsFrom (after_term depth (place TermRead level depth brackets) (Punct left_round)) tokens → ⊥
 no_left zero zero brackets tokens h = h

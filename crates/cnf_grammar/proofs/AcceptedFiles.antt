@@ -7,9 +7,11 @@ use Rattle.cnf_grammar.specs.Shapes.{Shape, Lower, Punct, left_round, right_roun
 use Rattle.cnf_grammar.specs.Trees.{Word, bare_word, quoted_word, Name, word_name, number_name, FileName, bare_file, quoted_file, Terms, Literal, Formula, bracketed, disjunction, Balanced, Part, Annotations, no_annotations, annotations, Selection, every_clause, selected, clause, include}
 use Rattle.cnf_grammar.specs.Trees as trees
 use Rattle.cnf_grammar.specs.Spelling.{name_token, file_token, closing, spell_literal, spell_literals, spell_formula, spell_part, spell_parts, spell_source, spell_items, spell_info, spell_optional_info, spell_annotations, spell_more_names, spell_names, spell_selection, spell}
-use Rattle.cnf_grammar.proofs.Accepting.{place, Accepts}
-use Rattle.cnf_grammar.proofs.Accepted.{taken, literal_read, formula_begins, accepts-term, accepts-arguments, accepts-terms, accepts-atom, accepts-literal, accepts-literals}
-use Rattle.cnf_grammar.proofs.AcceptedNotes.{Annotates, closes, source_annotates, info_annotates, source_begins, inside_goes, accepts-balanced, accepts-part, accepts-source_parts, accepts-info_parts, accepts-items}
+use Rattle.cnf_grammar.proofs.Accepting.{AcceptsFrom, place, Accepts}
+use Rattle.cnf_grammar.proofs.Accepted.{literal_read, formula_begins, accepts-term, accepts-arguments, accepts-terms, accepts-atom, accepts-literal, accepts-literals}
+use Rattle.cnf_grammar.proofs.OneTerm.{regrouped}
+use Rattle.cnf_grammar.proofs.AcceptedNotes.{Accepted, source_within, info_within, accepts-source_first, accepts-source_parts, accepts-info_parts, accepts-items}
+use Rattle.cnf_grammar.proofs.Notes.{take_test, GoesWithin, closes, notes-balanced}
 use Rattle.cnf_grammar.proofs.Rests.{Next, next, One, one, so, Inside, Closed, ClauseEnds, AfterSource, SourceParts, SourceStarts, InfoStarts, InfoItems, InfoParts, AfterFormula, FormulaStarts, AfterLiteral, LiteralStarts, AtomStarts, AfterTerm, AfterWord, TermStarts, AfterRole, AfterName, NameStarts, IncludeEnds, ListEnds, AfterSelected, SelectedStarts, ListStarts, AfterFile, FileStarts, rest_at}
 
 -- accepted between statements
@@ -19,9 +21,6 @@ Goes tokens = (level depth : ℕ) (brackets : List Bracket) → Accepts (place S
 -- accepted in this mode
 abbrev pub GoesIn : Mode → List Shape → Type 0
 GoesIn mode tokens = (level depth : ℕ) (brackets : List Bracket) → Accepts (place mode level depth brackets) tokens
-
-pub regrouped : (a b c rest : List Shape) → (a ++ (b ++ c)) ++ rest ≡ a ++ (b ++ (c ++ rest))
-regrouped a b c rest = append_assoc a (b ++ c) rest ∙ ap (λ u. a ++ u) (append_assoc b c rest)
 
 pub at_clause_closed : (tokens : List Shape) → Closed Goes tokens → GoesIn ClauseClosed tokens
 at_clause_closed _ (next k) level depth brackets = k level depth brackets
@@ -44,12 +43,12 @@ at_info_start _ (so info {rest} k) level depth brackets =
     (at_info _ (so info.first (so info.more (next k))) level depth)
 
 -- within brackets of an annotation
-pub at_inside : (mode : Mode) → Annotates mode → (K : List Shape → Type 0) → ((tokens : List Shape) → K tokens → (level depth : ℕ) → Accepts (place mode level depth []) tokens) → (brackets : List Bracket) (tokens : List Shape) → Inside brackets K tokens → (level depth : ℕ) → Accepts (place mode level depth brackets) tokens
-at_inside mode annotates K goes [] tokens k level depth = goes tokens k level depth
-at_inside mode annotates K goes (bracket ∷ outer) _ (so inside (next {rest} k)) level depth =
-    accepts-balanced mode annotates inside level depth bracket outer (Punct (closing bracket) ∷ rest)
-    (inside_goes mode annotates level depth bracket outer (Punct (closing bracket)) rest
-    (closes bracket outer mode level depth rest (at_inside mode annotates K goes outer rest k level depth)))
+pub at_inside : (mode : Mode) → GoesWithin Accepted mode → (K : List Shape → Type 0) → ((tokens : List Shape) → K tokens → (level depth : ℕ) → Accepts (place mode level depth []) tokens) → (brackets : List Bracket) (tokens : List Shape) → Inside brackets K tokens → (level depth : ℕ) → Accepts (place mode level depth brackets) tokens
+at_inside mode within K goes [] tokens k level depth = goes tokens k level depth
+at_inside mode within K goes (bracket ∷ outer) _ (so inside (next {rest} k)) level depth =
+    notes-balanced Accepted mode within inside [] level depth bracket outer (Punct (closing bracket) ∷ rest)
+    (within [] level depth bracket outer (Punct (closing bracket)) rest
+    (closes (λ o. AcceptsFrom o rest) bracket outer mode level depth (at_inside mode within K goes outer rest k level depth)))
 
 pub at_after_source : (tokens : List Shape) → AfterSource Goes tokens → (level depth : ℕ) → Accepts (place Source level depth []) tokens
 at_after_source _ (so None (next k)) level depth = at_clause_closed _ k level depth []
@@ -61,7 +60,7 @@ at_source _ (so parts {rest} k) level depth = accepts-source_parts parts level d
 pub at_source_start : (tokens : List Shape) → SourceStarts Goes tokens → GoesIn SourceStart tokens
 at_source_start _ (so source {rest} k) level depth brackets =
     subst (Accepts (place SourceStart level depth brackets)) (sym (append_assoc (spell_part source.first) (spell_parts source.more) rest))
-    (accepts-part Source source_annotates (place SourceStart 0 0 brackets) (source_begins brackets) source.first level depth (spell_parts source.more ++ rest) (at_source _ (so source.more k) level depth))
+    (accepts-source_first source.first level depth brackets (spell_parts source.more ++ rest) (at_source _ (so source.more k) level depth))
 
 pub at_formula_closed : (level : ℕ) (tokens : List Shape) → AfterFormula Goes level tokens → (depth : ℕ) (brackets : List Bracket) → Accepts (place FormulaClosed level depth brackets) tokens
 at_formula_closed zero _ (so no_annotations (next k)) depth brackets = at_clause_closed _ k 0 depth brackets
@@ -152,7 +151,7 @@ at_file_read _ (so (selected names) {rest} k) level depth brackets =
 
 pub at_file_start : (tokens : List Shape) → FileStarts Goes tokens → GoesIn FileStart tokens
 at_file_start _ (one (bare_file text) {rest} k) level depth brackets = at_file_read rest k level depth brackets
-at_file_start _ (one (quoted_file text full) {rest} k) level depth brackets = taken (not (bytes_eq text (codes "''"))) (place FileRead level depth brackets) None rest (ap not full) (at_file_read rest k level depth brackets)
+at_file_start _ (one (quoted_file text full) {rest} k) level depth brackets = take_test (λ o. AcceptsFrom o rest) (not (bytes_eq text (codes "''"))) (place FileRead level depth brackets) None (ap not full) (at_file_read rest k level depth brackets)
 
 pub at_include_word : (tokens : List Shape) → Next left_round (FileStarts Goes) tokens → GoesIn IncludeWord tokens
 at_include_word _ (next {rest} k) level depth brackets = at_file_start rest k level depth brackets
@@ -185,9 +184,9 @@ accepts-rest TermStart level depth brackets tokens k = at_term_start level depth
 accepts-rest TermRead level depth brackets tokens k = at_after_term level depth tokens k brackets
 accepts-rest FormulaClosed level depth brackets tokens k = at_formula_closed level tokens k depth brackets
 accepts-rest SourceStart level depth brackets tokens k = at_source_start tokens k level depth brackets
-accepts-rest Source level depth brackets tokens k = at_inside Source source_annotates (SourceParts Goes) (at_source) brackets tokens k level depth
+accepts-rest Source level depth brackets tokens k = at_inside Source source_within (SourceParts Goes) (at_source) brackets tokens k level depth
 accepts-rest InfoStart level depth brackets tokens k = at_info_start tokens k level depth brackets
-accepts-rest Info level depth brackets tokens k = at_inside Info info_annotates (InfoParts Goes) (at_info) brackets tokens k level depth
+accepts-rest Info level depth brackets tokens k = at_inside Info info_within (InfoParts Goes) (at_info) brackets tokens k level depth
 accepts-rest InfoClosed level depth brackets tokens k = at_info_closed tokens k level depth brackets
 accepts-rest ClauseClosed level depth brackets tokens k = at_clause_closed tokens k level depth brackets
 accepts-rest IncludeWord level depth brackets tokens k = at_include_word tokens k level depth brackets

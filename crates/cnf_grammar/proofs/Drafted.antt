@@ -1,16 +1,15 @@
 -- What a formula's tree adds to an empty draft is the meaning of its literals.
-use Rattle.std.proofs.Common.{◌≡◌, ℕ, zero, suc, pred, Bool, true, false, List, [], ◌∷◌, ◌++◌, map, flat_map, length, Option, Some, None, refl, sym, ◌∙◌, ap, ap₂, append_assoc, append-nil}
+use Rattle.std.proofs.Common.{◌≡◌, ℕ, suc, pred, Bool, true, false, List, [], ◌∷◌, ◌++◌, map, flat_map, length, Option, Some, None, refl, sym, ◌∙◌, ap, ap₂, append_assoc, append-nil}
 use Rattle.cnf_grammar.specs.declared.mode.Mode.TheVariants.{FormulaStart, FormulaClosed}
 use Rattle.cnf_grammar.specs.declared.place.Place.{Place}
 use Rattle.cnf_grammar.specs.Shapes.{Shape, Punct, right_round, comma}
 use Rattle.cnf_grammar.specs.Spelling.{spell_formula}
 use Rattle.cnf_grammar.specs.Table.{to, step}
-use Rattle.cnf_grammar.specs.Trees.{Word, Term, variable, number, distinct, compound, Arguments, no_arguments, arguments, Terms, no_terms, then_term, Atom, truth, falsity, predicate, Literal, positive, negative, Formula, bracketed, disjunction}
-use Rattle.cnf_grammar.specs.Conclude.{literals_of}
-use Rattle.cnf_grammar.specs.Meaning.{Kind, word_kind, word_text, Symbol, Item, symbol_item, variable_item, symbol_of, count_terms, count_arguments, variables_of_term, variables_of_arguments, variables_of_terms, variables_of_literal, variables_of, each_once, index_of, items_of_term, items_of_arguments, items_of_terms, ClauseLiteral, signed, clause_literal}
-use Rattle.cnf_grammar.specs.Draft.{Draft, empty_draft, with_variable, add_argument, first_argument, next_argument, close_arguments, finish, collect_from, draft_of}
+use Rattle.cnf_grammar.specs.Trees.{Term, variable, number, distinct, compound, Arguments, no_arguments, arguments, Terms, no_terms, then_term, truth, falsity, predicate, Literal, positive, negative, Formula, bracketed, disjunction}
+use Rattle.cnf_grammar.specs.Meaning.{Kind, word_kind, word_text, Symbol, Item, symbol_item, variable_item, count_terms, count_arguments, variables_of_term, variables_of_arguments, variables_of_terms, variables_of_literal, each_once, items_of_term, items_of_arguments, items_of_terms, ClauseLiteral, clause_literal}
+use Rattle.cnf_grammar.specs.Draft.{Draft, empty_draft, with_variable, add_argument, first_argument, close_arguments, finish, draft_of}
 use Rattle.cnf_grammar.proofs.Variables.{with_variables, with_variables-append, Extends, extends_with, index_final, once_is}
-use Rattle.cnf_grammar.proofs.Collected.{add_term, add_arguments, add_terms, add_atom, add_literal, add_literals, add_formula, collects-formula}
+use Rattle.cnf_grammar.proofs.Collected.{add_term, add_arguments, add_terms, add_literal, add_literals, add_formula, collects-formula}
 use Rattle.cnf_grammar.proofs.Accepting.{place}
 use Rattle.cnf_grammar.proofs.OneTerm.{Ends, ends_comma, ends_round}
 
@@ -116,20 +115,3 @@ drafted (disjunction first more) =
     let h1 = extends_with final v1 (flat_map variables_of_literal more) h2 in
     adds-literals more (add_literal first empty_draft) (clause_literal final first ∷ []) v1 final (adds-literal first [] [] final h1) h2
     ∙ ap (λ w. draft (clause_literal final first ∷ map (clause_literal final) more) false [] [] w) (sym (with_variables-append [] (variables_of_literal first) (flat_map variables_of_literal more)) ∙ once_is all)
-
--- nothing comes behind
-nothing_more : (o : Option Place) (d : Draft) → collect_from o d [] ≡ d
-nothing_more None d = refl
-nothing_more (Some p) d = refl
-
--- the tokens of a formula, with the mark behind it, leave its literals and variables
-formula_read : (formula : Formula) (p : Place) (mark : Shape) → Ends (mark ∷ []) → ((d : Draft) (closed : ℕ) → collect_from (Some (place FormulaClosed p.level closed p.brackets)) d (mark ∷ []) ≡ d) → collect_from (Some (to FormulaStart p)) empty_draft (spell_formula formula ++ mark ∷ []) ≡ draft_of formula
-formula_read formula p mark f last =
-    let h = collects-formula formula p.level p.depth p.brackets empty_draft (mark ∷ []) f in
-    h.1 ∙ (last (add_formula formula empty_draft) h.0 ∙ drafted formula)
-
-pub before_comma : (formula : Formula) (p : Place) → collect_from (Some (to FormulaStart p)) empty_draft (spell_formula formula ++ Punct comma ∷ []) ≡ draft_of formula
-before_comma formula p = formula_read formula p (Punct comma) ends_comma (λ d closed. nothing_more (step (place FormulaClosed p.level closed p.brackets) (Punct comma)) d)
-
-pub before_round : (formula : Formula) (p : Place) → collect_from (Some (to FormulaStart p)) empty_draft (spell_formula formula ++ Punct right_round ∷ []) ≡ draft_of formula
-before_round formula p = formula_read formula p (Punct right_round) ends_round (λ d closed. nothing_more (step (place FormulaClosed p.level closed p.brackets) (Punct right_round)) d)

@@ -1,11 +1,11 @@
 -- The table of an item follows conclude items exactly as far as they can be right.
-use Rattle.std.proofs.Common.{◌≡◌, ℕ, zero, suc, ◌<◌, ◌≤◌, ◌^◌, Bool, true, false, ◌&&◌, ◌||◌, ◌⊎◌, inl, inr, ◌↔◌, nat_lt, List, [], ◌∷◌, ◌++◌, length, Option, Some, None, is_some, IsSome, codes, refl, sym, ◌∙◌, ap, ap₂, subst, arith}
+use Rattle.std.proofs.Common.{◌≡◌, ℕ, zero, suc, ◌<◌, ◌≤◌, ◌^◌, Bool, true, false, ◌&&◌, ◌⊎◌, inl, inr, ◌↔◌, nat_lt, List, [], ◌∷◌, ◌++◌, length, Option, Some, None, is_some, IsSome, codes, refl, sym, ◌∙◌, ap, ap₂, subst, arith}
 use Rattle.std.proofs.lemmas.Bool.Decides.{nat_tests}
 use Rattle.std.proofs.lemmas.Fmt.{decimal_is_IsNumeral}
 use Rattle.std.specs.Fmt.{decimal}
 use Rattle.std.specs.Str.Parse.{digits_value}
 use Rattle.cnf_grammar.specs.Shapes.{Shape, Lower, Upper, Quoted, Distinct, Dollar, Number, NotEqual, Punct, left_round, right_round, left_square, right_square, comma, is_keyword, is_mark}
-use Rattle.cnf_grammar.specs.Conclude.{gives_conclusions, spell_more_numbers, spell_numbers, item_end, conclude_item, has_word_at, names_literal, may_follow, are_conclusions_above, values, IsConcludeItem, BeginsConcludeItem}
+use Rattle.cnf_grammar.specs.Conclude.{gives_conclusions, spell_more_numbers, spell_numbers, item_end, has_word_at, may_follow, are_conclusions_above, values, IsConcludeItem, BeginsConcludeItem}
 use Rattle.cnf_grammar.specs.declared.item.ItemPlace.{ItemPlace}
 use Rattle.cnf_grammar.specs.Items.{item_start, word_read, item_open, list_open, number_read, number_start, list_closed, item_closed, other_item, names_above, at_item, number_at, item_step, item_run}
 use Rattle.cnf_grammar.proofs.Accepting.{mark_is, keyword_is}

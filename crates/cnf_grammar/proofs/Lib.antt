@@ -1,6 +1,7 @@
 mod Accepting
 mod Rests
 mod Accepted
+mod Notes
 mod AcceptedNotes
 mod AcceptedFiles
 mod Spelled
@@ -15,3 +16,5 @@ mod Variables
 mod Collected
 mod Drafted
 mod ItemLaws
+mod ItemNumbers
+mod Whole

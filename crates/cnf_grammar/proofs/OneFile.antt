@@ -3,9 +3,9 @@ use Rattle.std.proofs.Common.{◌≡◌, ℕ, Bool, true, false, List, [], ◌�
 use Rattle.std.proofs.Math.Bool.{Bool-set}
 use Rattle.cnf_grammar.specs.declared.brackets.Bracket.{Bracket}
 use Rattle.cnf_grammar.specs.declared.brackets.Bracket.TheVariants.{Round, Square}
-use Rattle.cnf_grammar.specs.Shapes.{Shape, Lower, Quoted, Number, Punct, left_round, right_round, left_square, right_square, comma, dot, is_mark, is_bracket}
-use Rattle.cnf_grammar.specs.Trees.{Word, Name, word_name, number_name, FileName, bare_file, quoted_file, Balanced, no_tokens, then_token, then_group, Part, single, group, Source, Info, Annotations, no_annotations, annotations, Selection, every_clause, selected, Formula, Statement, clause, include}
-use Rattle.cnf_grammar.specs.Spelling.{word_token, name_token, file_token, opening, closing, spell_formula, spell_balanced, spell_part, spell_parts, spell_source, spell_items, spell_info, spell_optional_info, spell_annotations, spell_more_names, spell_names, spell_selection, spell_statement, spell}
+use Rattle.cnf_grammar.specs.Shapes.{Shape, Number, Punct, left_round, right_round, left_square, right_square, comma, dot, is_mark, is_bracket}
+use Rattle.cnf_grammar.specs.Trees.{Name, word_name, number_name, FileName, bare_file, quoted_file, Balanced, no_tokens, then_token, then_group, Part, single, group, Source, Info, Annotations, no_annotations, annotations, Selection, every_clause, selected, Formula, Statement, clause, include}
+use Rattle.cnf_grammar.specs.Spelling.{name_token, file_token, opening, closing, spell_formula, spell_balanced, spell_part, spell_parts, spell_source, spell_items, spell_info, spell_optional_info, spell_annotations, spell_more_names, spell_names, spell_selection, spell_statement, spell}
 use Rattle.cnf_grammar.proofs.OneTerm.{Ends, ends_comma, ends_round, heads, apart, no_word, one_word, regrouped, both, one_formula}
 
 -- two proofs that a test fails are one

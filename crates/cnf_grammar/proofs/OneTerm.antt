@@ -1,5 +1,5 @@
 -- No two formulas spell the same tokens.
-use Rattle.std.proofs.Common.{◌≡◌, ℕ, Bool, true, false, List, [], ◌∷◌, ◌++◌, codes, refl, sym, ◌∙◌, ap, ap₂, subst, append_assoc}
+use Rattle.std.proofs.Common.{◌≡◌, ℕ, true, false, List, [], ◌∷◌, ◌++◌, codes, refl, sym, ◌∙◌, ap, ap₂, subst, append_assoc}
 use Rattle.cnf_grammar.specs.Shapes.{Shape, Lower, Upper, Quoted, Distinct, Dollar, Number, Punct, left_round, right_round, comma, bar, tilde, is_mark, is_word}
 use Rattle.cnf_grammar.specs.Trees.{Word, bare_word, quoted_word, Term, variable, number, distinct, compound, Arguments, no_arguments, arguments, Terms, no_terms, then_term, Atom, truth, falsity, predicate, Literal, positive, negative, Formula, bracketed, disjunction}
 use Rattle.cnf_grammar.specs.Spelling.{word_token, spell_term, spell_arguments, spell_terms, spell_atom, spell_literal, spell_literals, spell_formula}
@@ -35,7 +35,7 @@ not_open _ more follows_comma e = apart comma (Punct comma) (Punct left_round) (
 not_open _ more follows_round e = apart right_round (Punct right_round) (Punct left_round) (heads e).0 refl refl
 not_open _ more follows_bar e = apart bar (Punct bar) (Punct left_round) (heads e).0 refl refl
 
-terms_follow : (more : Terms) (rest : List Shape) → Follows (spell_terms more ++ Punct right_round ∷ rest)
+pub terms_follow : (more : Terms) (rest : List Shape) → Follows (spell_terms more ++ Punct right_round ∷ rest)
 terms_follow no_terms rest = follows_round
 terms_follow (then_term term more) rest = follows_comma
 
@@ -107,7 +107,7 @@ one_literal (negative a) (negative b) r s f g e = let h = one_atom a b r s f g (
 one_literal (positive a) (negative b) r s f g e = absurd (atom_apart a tilde r (spell_atom b ++ s) e)
 one_literal (negative a) (positive b) r s f g e = absurd (atom_apart b tilde s (spell_atom a ++ r) (sym e))
 
-literals_follow : (more : List Literal) (rest : List Shape) → Ends rest → Follows (spell_literals more ++ rest)
+pub literals_follow : (more : List Literal) (rest : List Shape) → Ends rest → Follows (spell_literals more ++ rest)
 literals_follow [] _ ends_comma = follows_comma
 literals_follow [] _ ends_round = follows_round
 literals_follow (literal ∷ more) rest f = follows_bar

@@ -1,5 +1,5 @@
 -- What small statements say, as worked by hand.
-use Rattle.std.proofs.Common.{◌≡◌, ℕ, suc, Bool, true, false, List, [], ◌∷◌, ◌++◌, Option, Some, None, codes, refl}
+use Rattle.std.proofs.Common.{◌≡◌, Bool, true, false, List, [], ◌∷◌, Some, None, codes, refl}
 use Rattle.cnf_grammar.specs.declared.brackets.Bracket.TheVariants.{Round, Square}
 use Rattle.cnf_grammar.specs.Shapes.{Lower, Number, Punct, left_round, right_round, left_square, right_square, comma}
 use Rattle.cnf_grammar.specs.Trees.{bare_word, quoted_word, quoted_file, variable, compound, no_arguments, arguments, no_terms, then_term, truth, falsity, predicate, positive, negative, Formula, bracketed, disjunction, no_tokens, then_token, then_group, single, group, Annotations, annotations, every_clause, include}

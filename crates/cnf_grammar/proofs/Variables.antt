@@ -1,5 +1,5 @@
 -- Variables by first occurrence: adding them one by one, and taking each once.
-use Rattle.std.proofs.Common.{◌≡◌, ℕ, zero, suc, Bool, true, false, cond, not, ◌||◌, ◌⊎◌, inl, inr, List, [], ◌∷◌, ◌++◌, filter, refl, sym, ◌∙◌, ap, subst, append_assoc, append-nil, bytes_eq}
+use Rattle.std.proofs.Common.{◌≡◌, ℕ, suc, Bool, true, false, cond, not, ◌||◌, List, [], ◌∷◌, ◌++◌, filter, refl, sym, ◌∙◌, ap, subst, append_assoc, append-nil, bytes_eq}
 use Rattle.std.proofs.lemmas.Slice.Eq.{bytes_eq-Decides}
 use Rattle.cnf_grammar.specs.Meaning.{each_once, index_of}
 use Rattle.cnf_grammar.specs.Draft.{has_text, with_variable}

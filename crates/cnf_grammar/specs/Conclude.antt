@@ -1,5 +1,5 @@
 -- Which items of an info give conclusions, and when such an item is right.
-use Rattle.std.specs.Prelude.{◌≡◌, ℕ, zero, suc, Bool, true, false, ◌&&◌, nat_lt, List, [], ◌∷◌, ◌++◌, Option, Some, None, map, filter, filter_map, codes, decimal, All}
+use Rattle.std.specs.Prelude.{◌≡◌, ℕ, zero, suc, Bool, true, false, ◌&&◌, nat_lt, List, [], ◌∷◌, ◌++◌, Option, Some, None, map, filter, filter_map, codes, All}
 use Rattle.std.specs.Str.Parse.{digits_value}
 use Rattle.cnf_grammar.specs.Shapes.{Shape, Lower, Number, Punct, left_round, right_round, left_square, right_square, comma, is_keyword, is_mark}
 use Rattle.cnf_grammar.specs.Trees.{predicate, Literal, positive, negative, Formula, bracketed, disjunction, Info, Annotations, no_annotations, annotations}

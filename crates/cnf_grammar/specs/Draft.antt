@@ -1,5 +1,5 @@
 -- The literals of a clause under way: what each token of its formula adds to them.
-use Rattle.std.specs.Prelude.{◌≡◌, ℕ, zero, suc, pred, Bool, true, false, cond, ◌==◌, List, [], ◌∷◌, ◌++◌, Option, Some, None, map, length, codes, bytes_eq}
+use Rattle.std.specs.Prelude.{ℕ, zero, suc, pred, Bool, true, false, cond, ◌==◌, List, [], ◌∷◌, ◌++◌, Option, Some, None, map, length, codes, bytes_eq}
 use Rattle.cnf_grammar.specs.declared.mode.Mode.{Mode}
 use Rattle.cnf_grammar.specs.declared.mode.Mode.TheVariants.{FormulaStart, LiteralStart, AtomStart, WordRead, TermStart, TermRead}
 use Rattle.cnf_grammar.specs.declared.place.Place.{Place}
@@ -7,7 +7,7 @@ use Rattle.cnf_grammar.specs.Shapes.{Shape, Lower, Upper, Quoted, Distinct, Doll
 use Rattle.cnf_grammar.specs.Trees.{Formula}
 use Rattle.cnf_grammar.specs.Table.{step}
 use Rattle.cnf_grammar.specs.Conclude.{literals_of}
-use Rattle.cnf_grammar.specs.Meaning.{unquoted, Kind, word_kind, integer_kind, distinct_kind, Symbol, Item, symbol_item, variable_item, variables_of, index_of, ClauseLiteral, always, never, signed, clause_literal}
+use Rattle.cnf_grammar.specs.Meaning.{unquoted, Kind, word_kind, integer_kind, distinct_kind, Item, symbol_item, variable_item, variables_of, index_of, ClauseLiteral, always, never, signed, clause_literal}
 
 -- what was read of a formula so far
 pub record Draft : Type 0 where
@@ -64,19 +64,21 @@ first_argument d = record d {
   open_words = pred (length d.atom) ∷ d.open_words;
 }
 
--- a further argument of the innermost open word begins
+-- a further argument of the innermost of these words begins
 abbrev pub next_argument_of : List ℕ → Draft → Draft
 next_argument_of [] d = d
 next_argument_of (place ∷ outer) d = record d { atom = add_argument place d.atom }
 
+-- a further argument begins
 abbrev pub next_argument : Draft → Draft
 next_argument d = next_argument_of d.open_words d
 
--- the innermost open word closes its arguments
+-- the innermost of these words closes its arguments
 abbrev pub close_words : List ℕ → Draft → Draft
 close_words [] d = d
 close_words (place ∷ outer) d = record d { open_words = outer }
 
+-- the innermost open word closes its arguments
 abbrev pub close_arguments : Draft → Draft
 close_arguments d = close_words d.open_words d
 
@@ -91,11 +93,12 @@ constant false true = always
 abbrev pub push_constant : Bool → Draft → Draft
 push_constant truth d = record d { literals = d.literals ++ constant truth d.is_negative ∷ []; is_negative = false }
 
--- the atom under way is whole
+-- the literal of this atom is whole, if one is under way
 abbrev pub finish_atom : List Item → Draft → Draft
 finish_atom [] d = d
 finish_atom (item ∷ items) d = record d { literals = d.literals ++ signed d.is_negative (item ∷ items) ∷ []; is_negative = false; atom = [] }
 
+-- the literal under way is whole, if there is one
 abbrev pub finish : Draft → Draft
 finish d = finish_atom d.atom d
 
@@ -134,16 +137,6 @@ collect_at WordRead depth s d = end_word depth s d
 collect_at TermStart depth s d = begin_term s d
 collect_at TermRead depth s d = end_term depth s d
 collect_at _ depth s d = d
-
--- what a token adds, read at a place
-abbrev pub collect : Place → Shape → Draft → Draft
-collect p s d = collect_at p.mode p.depth s d
-
--- what tokens add, read from a place on
-abbrev pub collect_from : Option Place → Draft → List Shape → Draft
-collect_from None d tokens = d
-collect_from (Some p) d [] = d
-collect_from (Some p) d (s ∷ tokens) = collect_from (step p s) (collect p s d) tokens
 
 -- the literals and variables of a formula, whole
 abbrev pub draft_of : Formula → Draft

@@ -1,5 +1,5 @@
 -- The table of an item of an info: where its tokens lead, as long as it can still be right.
-use Rattle.std.specs.Prelude.{◌≡◌, ℕ, zero, suc, Bool, true, false, cond, ◌&&◌, ◌||◌, List, [], ◌∷◌, Option, Some, None, codes}
+use Rattle.std.specs.Prelude.{ℕ, zero, suc, Bool, true, false, ◌&&◌, ◌||◌, List, [], ◌∷◌, Option, Some, None, codes}
 use Rattle.std.specs.Str.Parse.{digits_value}
 use Rattle.cnf_grammar.specs.declared.item.ItemPlace.{ItemPlace}
 pub use Rattle.cnf_grammar.specs.declared.item.ItemPlace.TheVariants.{Start as item_start, WordRead as word_read, Open as item_open, ListOpen as list_open, NumberRead as number_read, NumberStart as number_start, ListClosed as list_closed, Closed as item_closed, Other as other_item}

@@ -9,3 +9,4 @@ pub mod Conclude
 pub mod Meaning
 pub mod Draft
 pub mod Items
+pub mod Gathering

@@ -1,15 +1,15 @@
 //! The laws that join the table to the grammar. The functions do nothing: each is called for what it ensures.
 
-ghost use Rattle.std.specs.Prelude.{◌≡◌, ◌<◌, ◌^◌, Bool, true, false, length, List, [], ◌∷◌, ◌++◌, Some, None, IsSome, ◌↔◌};
+ghost use Rattle.std.specs.Prelude.{◌≡◌, ◌<◌, ◌^◌, Bool, true, false, length, map, List, [], ◌∷◌, ◌++◌, Some, None, IsSome, ◌↔◌};
 ghost use Rattle.cnf_grammar.specs.declared.place.Place.{Place};
-ghost use Rattle.cnf_grammar.specs.Shapes.{Shape, Punct, comma, right_round};
-ghost use Rattle.cnf_grammar.specs.Trees.{Statement, Formula};
-ghost use Rattle.cnf_grammar.specs.Spelling.{spell, spell_formula, IsFile, IsFront};
-ghost use Rattle.cnf_grammar.specs.Table.{to, step, run, start, is_end};
-ghost use Rattle.cnf_grammar.specs.declared.mode.Mode.TheVariants.{FormulaStart};
+ghost use Rattle.cnf_grammar.specs.Shapes.{Shape};
+ghost use Rattle.cnf_grammar.specs.Trees.{Statement};
+ghost use Rattle.cnf_grammar.specs.Spelling.{spell, IsFile, IsFront};
+ghost use Rattle.cnf_grammar.specs.Table.{step, run, start, is_end};
 ghost use Rattle.cnf_grammar.specs.Conclude.{gives_conclusions, IsConcludeItem, BeginsConcludeItem};
 ghost use Rattle.cnf_grammar.specs.Items.{item_start, item_closed, item_run};
-ghost use Rattle.cnf_grammar.specs.Draft.{empty_draft, collect_from, draft_of};
+ghost use Rattle.cnf_grammar.specs.Meaning.{meaning};
+ghost use Rattle.cnf_grammar.specs.Gathering.{gathered, gather_from};
 ghost use Rattle.cnf_grammar.specs.Laws.{LeadsToEnd, StopsAt, IsFirstFault};
 
 /// The tokens that a tree spells lead from the start to a place where a file may end.
@@ -51,11 +51,10 @@ pub fn each_file_has_one_tree()
     ensures { (file other : List Statement) → spell file ≡ spell other → file ≡ other }
 {}
 
-/// What the tokens of a formula add to an empty draft, up to the mark behind the formula, is what
-/// the formula's tree says: its literals with their symbols, and its variables.
-pub fn each_formula_leaves_its_literals()
-    ensures comma { (formula : Formula) (p : Place) → collect_from (Some (to FormulaStart p)) empty_draft (spell_formula formula ++ Punct comma ∷ []) ≡ draft_of formula }
-    ensures bracket { (formula : Formula) (p : Place) → collect_from (Some (to FormulaStart p)) empty_draft (spell_formula formula ++ Punct right_round ∷ []) ≡ draft_of formula }
+/// The tokens of a file, gathered along the table from its start, leave what each of its statements
+/// says, in order, and nothing of a next one.
+pub fn each_file_leaves_its_meaning()
+    ensures { (file : List Statement) → gather_from (Some start) (gathered []) (spell file) ≡ gathered (map meaning file) }
 {}
 
 /// The table of items passes over an item that gives no conclusions. In one that does, it leads on

@@ -16,7 +16,7 @@ mod tests;
 pub use brackets::{Bracket, Brackets};
 pub use item::ItemPlace;
 pub use laws::{
-    each_file_has_one_tree, each_file_is_accepted, each_formula_leaves_its_literals,
+    each_file_has_one_tree, each_file_is_accepted, each_file_leaves_its_meaning,
     each_place_can_be_completed, fronts_lead_on, items_are_followed, only_files_are_accepted,
     place_tells_what_may_come, stops_at_first_fault,
 };

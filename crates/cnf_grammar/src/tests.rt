@@ -1,6 +1,6 @@
 //! Tests: whole token lists go where a reader by hand says, with memory at hand.
 
-use crate::{Bracket, Brackets, Lexeme, Mode, Place};
+use crate::{Bracket, Brackets, ItemPlace, Mode, Place};
 use mg_word::NoMemory;
 use std::alloc::Global;
 use std::test::Fail;
@@ -80,4 +80,34 @@ fn keeps_brackets(rt: HostRuntime) -> Result<(), Fail> {
     brackets.restart(Bracket::Round)?;
     assert_eq!(rt; brackets.innermost(), Some(Bracket::Round));
     Ok(())
+}
+
+/// Where the tokens between the spaces lead in an item of a clause `p | $false | q`.
+fn follow_item(spaced: &[u8]) -> Option<ItemPlace> {
+    let words = [true, false, true];
+    let mut place = ItemPlace::Start;
+    for text in spaced.split(|byte| *byte == b' ') {
+        let (kind, plain) = token(text);
+        place = place.step(&words, kind, text, plain)?;
+    }
+    Some(place)
+}
+
+#[test]
+fn follows_items(rt: HostRuntime) {
+    let rows: [(&[u8], Option<ItemPlace>); 10] = [
+        (b"conclude ( [ 1 , 3 ] )", Some(ItemPlace::Closed)),
+        (b"conclude ( [ ] )", Some(ItemPlace::Closed)),
+        (b"conclude ( [ 1 ,", Some(ItemPlace::NumberStart(1))),
+        (b"conclude [ 9 ]", Some(ItemPlace::Other)),
+        (b"status ( thm )", Some(ItemPlace::Other)),
+        (b"conclude ( [ 2", None),
+        (b"conclude ( [ 3 ,", None),
+        (b"conclude ( [ 1 , 1", None),
+        (b"conclude ( [ 4294967297", None),
+        (b"conclude ( [ 1 ] ) more", None),
+    ];
+    for (row, (tokens, place)) in rows.into_iter().enumerate() {
+        assert_eq!(rt; follow_item(tokens), place, "at row {row}");
+    }
 }

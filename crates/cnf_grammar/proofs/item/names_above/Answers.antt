@@ -1,0 +1,17 @@
+-- A literal that was passed over has no word, or is not above the last number.
+use Rattle.std.proofs.Common.{◌≡◌, ◌<◌, ◌≤◌, false, length, get_or, arith}
+use Rattle.cnf_grammar.specs.Items.{names_above}
+use Rattle.cnf_grammar.proofs.ItemNumbers.{step_over}
+use Rattle.cnf_grammar.proofs.item.names_above.Goals as goal
+use Rattle.cnf_grammar.proofs.item.names_above.Goals.{else-last-place-via-then-last-place+else-word, else-last-place-via-else-last-place}
+
+pub loop-place-preserved : goal.loop-place-preserved
+loop-place-preserved c =
+    let i = c.loop-place.place in
+    let within : i < length c.args.words.now = omega arith in
+    let none : c.args.last ≤ i → get_or c.args.words.now i false ≡ false =
+    elim c.else-last-place.branch [
+      | else-last-place-via-then-last-place+else-word w ↦ λ h. w.if-word.false
+      | else-last-place-via-else-last-place w ↦ λ h. absurd (omega arith)
+    ] in
+    step_over c.args.words.now c.args.last i (names_above c.args.words.now c.args.last) within none c.loop-place.invariant
