@@ -35,17 +35,25 @@ number_in (other ∷ table) symbol = cond (same_symbol other symbol) 0 (suc (num
 abbrev pub with_symbol : List Symbol → Symbol → List Symbol
 with_symbol table symbol = cond (list_any (λ other. same_symbol other symbol) table) table (table ++ symbol ∷ [])
 
+-- the table with the symbol of this item, if it is one
+abbrev pub with_item : List Symbol → ReadItem → List Symbol
+with_item table (symbol_item symbol) = with_symbol table (entry_of symbol)
+with_item table (variable_item index) = table
+
+-- the item with the number of its symbol
+abbrev pub numbered_item : List Symbol → ReadItem → Item
+numbered_item table (symbol_item symbol) = Sym (number_in table (entry_of symbol))
+numbered_item table (variable_item index) = Var index
+
 -- the table with the symbols of these items, in order
 abbrev pub with_items : List Symbol → List ReadItem → List Symbol
 with_items table [] = table
-with_items table (symbol_item symbol ∷ items) = with_items (with_symbol table (entry_of symbol)) items
-with_items table (variable_item index ∷ items) = with_items table items
+with_items table (item ∷ items) = with_items (with_item table item) items
 
 -- the items with the numbers of their symbols
 abbrev pub numbered_items : List Symbol → List ReadItem → List Item
 numbered_items table [] = []
-numbered_items table (symbol_item symbol ∷ items) = Sym (number_in table (entry_of symbol)) ∷ numbered_items (with_symbol table (entry_of symbol)) items
-numbered_items table (variable_item index ∷ items) = Var index ∷ numbered_items table items
+numbered_items table (item ∷ items) = numbered_item table item ∷ numbered_items (with_item table item) items
 
 -- the table with the symbols of this literal
 abbrev pub with_literal : List Symbol → ClauseLiteral → List Symbol

@@ -161,6 +161,20 @@ impl<'a> ClauseDraft<'a> {
         Ok(())
     }
 
+    /// The literals that are whole.
+    pub fn literals(&self) -> &[RawLiteral<'a>]
+        ensures { map literal_seen result.now ≡ self.now.literals }
+    {
+        self.literals.as_slice()
+    }
+
+    /// The variables. It takes no memory.
+    pub fn into_variables(self) -> Items<Text>
+        ensures { result ≡ self.variables }
+    {
+        self.variables
+    }
+
     /// How many literals are whole.
     pub fn count(&self) -> usize
         ensures { result ≡ length self.now.literals }

@@ -4,6 +4,7 @@
 mod draft;
 mod fault;
 mod kept;
+mod numbers;
 mod pending;
 mod selections;
 mod text;

@@ -1,6 +1,7 @@
 //! The selections under which a file is read.
 
-ghost use Rattle.std.specs.Prelude.{◌≡◌, ◌∷◌, [], OnOk, OnErr, IfOk, drop};
+ghost use Rattle.std.specs.Prelude.{◌≡◌, ◌∷◌, [], OnOk, drop};
+ghost use Rattle.std.specs.List.{list_any};
 ghost use Rattle.cnf_reader.specs.Faults.{same_kind, same_name, selects, is_selected};
 
 use mg_word::{Items, Kind, Name, NoMemory};
@@ -15,12 +16,12 @@ pub struct Selections {
 }
 
 impl Model for Selections {
-    ghost use Rattle.std.specs.Prelude.{List, Option, reverse};
+    ghost use Rattle.std.specs.Prelude.{List, Option};
     ghost use Rattle.mg_word.specs.declared.clause.Name.{Name};
 
     ghost Value = { List (Option (List Name)) };
 
-    ghost view = { λ s. reverse s.lists.items };
+    ghost view = { λ s. s.lists.items };
 }
 
 impl Selections {
@@ -37,7 +38,7 @@ impl Selections {
     pub fn push(&mut self, names: Option<Items<Name>>) -> Result<(), NoMemory>
         ensures { OnOk result (self.new ≡ names ∷ self.old) }
     {
-        self.lists.push(names)?;
+        self.lists.insert(0, names)?;
         Ok(())
     }
 
@@ -45,14 +46,21 @@ impl Selections {
     pub fn close(&mut self)
         ensures { self.new ≡ drop 1 self.old }
     {
-        let _closed = self.lists.pop();
+        if !self.lists.is_empty() {
+            let _closed = self.lists.remove(0);
+        }
     }
 
     /// Whether each selection has the name.
     pub fn have(&self, name: &Name) -> bool
         ensures { result ≡ is_selected self.now name.now }
     {
-        self.lists.iter().rev().all(|names| selects(name, names))
+        for names in &self.lists {
+            if !selects(name, names) {
+                return false;
+            }
+        }
+        true
     }
 }
 
@@ -79,6 +87,17 @@ fn selects(name: &Name, names: &Option<Items<Name>>) -> bool
 {
     match names {
         None => true,
-        Some(names) => names.as_slice().iter().any(|other| is_same_name(other, name)),
+        Some(names) => has_name(names.as_slice(), name),
     }
+}
+
+fn has_name(names: &[Name], name: &Name) -> bool
+    ensures { result ≡ list_any (λ other. same_name other name.now) names.now }
+{
+    for other in names {
+        if is_same_name(other, name) {
+            return true;
+        }
+    }
+    false
 }
