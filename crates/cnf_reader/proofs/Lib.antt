@@ -1,3 +1,5 @@
 pub mod Drafting
 pub mod Numbering
 pub mod Taking
+pub mod Ends
+pub mod Going

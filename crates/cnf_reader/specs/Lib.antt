@@ -4,3 +4,5 @@ pub mod Statements
 pub mod Keeping
 pub mod Names
 pub mod Reading
+pub mod Parts
+pub mod Openings

@@ -170,7 +170,7 @@ impl<'a> ClauseDraft<'a> {
 
     /// The variables. It takes no memory.
     pub fn into_variables(self) -> Items<Text>
-        ensures { result ≡ self.variables }
+        ensures { result ≡ self.entry.variables }
     {
         self.variables
     }

@@ -2,9 +2,13 @@
 #![tactic(auto)]
 
 mod draft;
+mod end;
 mod fault;
 mod kept;
+mod names;
 mod numbers;
+mod opening;
+mod part;
 mod pending;
 mod selections;
 mod text;
