@@ -3,3 +3,4 @@ pub mod Numbering
 pub mod Taking
 pub mod Ends
 pub mod Going
+pub mod Reaching

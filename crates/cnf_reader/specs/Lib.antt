@@ -6,3 +6,4 @@ pub mod Names
 pub mod Reading
 pub mod Parts
 pub mod Openings
+pub mod Frames

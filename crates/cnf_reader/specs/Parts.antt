@@ -32,6 +32,10 @@ reads_on lower source pending kept left = read_tokens lower source pending kept 
 abbrev pub IsOpen : Place → Type 0
 IsOpen p = p.level + p.depth ≤ 100
 
+-- no include and no file is new
+abbrev pub Stays : Kept → Kept → Type 0
+Stays kept after = (after.includes ≡ kept.includes) × (after.bytes ≡ kept.bytes)
+
 -- how the reading of a file goes on with this part, whatever the file's name and whatever its includes are
 abbrev pub PartIs : ℕ → List ℕ → List (Option (List Name)) → Pending → Kept → Lexed → Part → Kept → Lexed → Type 0
 PartIs number bytes selections p kept left Ended after more =

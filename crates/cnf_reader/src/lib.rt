@@ -4,6 +4,7 @@
 mod draft;
 mod end;
 mod fault;
+mod files;
 mod kept;
 mod names;
 mod numbers;

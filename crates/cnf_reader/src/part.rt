@@ -1,10 +1,10 @@
 //! One statement of a file, from its first token to its dot.
 
-ghost use Rattle.std.specs.Prelude.{◌≡◌, ◌+◌, ◌≤◌, length, IfOk};
+ghost use Rattle.std.specs.Prelude.{◌≡◌, ◌+◌, ◌≤◌, length, IfOk, OnOk};
 ghost use Rattle.tptp_lexer.specs.Tokens.{left_of, IsAt};
 ghost use Rattle.cnf_grammar.specs.Seen.{seen};
 ghost use Rattle.cnf_reader.specs.Keeping.{keep as kept_with, is_full};
-ghost use Rattle.cnf_reader.specs.Parts.{IsPart, IsEnd};
+ghost use Rattle.cnf_reader.specs.Parts.{IsPart, IsEnd, Stays};
 ghost use Rattle.cnf_reader.specs.declared.part.Part.TheVariants.{Include};
 
 use crate::end::end_of;
@@ -40,7 +40,8 @@ fn keep(
     number: u32,
     pending: Pending,
 ) -> Result<Place, NoMemory>
-    ensures { IfOk result (λ place. (place ≡ pending.entry.place) × (kept.new ≡ kept_with selections.now kept.old number pending.entry)) }
+    ensures kept { IfOk result (λ place. (place ≡ pending.entry.place) × (kept.new ≡ kept_with selections.now kept.old number pending.entry)) }
+    ensures stays { OnOk result (Stays kept.old kept.new) }
 {
     let Pending {
         place,
@@ -101,6 +102,7 @@ pub fn read_part(
     requires at { IsAt bytes.now cursor.old }
     requires open { place.level + place.depth ≤ 100 }
     ensures at { IsAt bytes.now cursor.new }
+    ensures stays { OnOk result (Stays kept.old kept.new) }
     ensures part { IfOk result (λ part. IsPart number bytes.now selections.now place kept.old (left_of bytes.now cursor.old) part kept.new (left_of bytes.now cursor.new)) }
 {
     let is_full = kept.clauses.as_slice().len() >= 20000;

@@ -41,7 +41,7 @@ returns-in-ClauseClosed-clause-part c =
     (clause_ends c.args.number c.args.bytes.now c.args.selections.now c.args.kept.now (fresh c.args.place) (left_of c.args.bytes.now c.args.cursor.now) c.loop.pending (left_of c.args.bytes.now c.loop.cursor) c.loop.invariant.reaches
     c.in-Some.token (sym c.in-Ok.ensures.answer ∙ ap Ok c.in-Some.is) None c.take.new.self c.in_ok-place-in-ClauseClosed.place c.keep.new.kept
     (rw (c.as_slice.ensures) at (rw c.in_default-fault.is at c.in_ok-fault.ensures.taken)) c.in-ClauseClosed.is (rw c.in_default-fault.is at c.in_ok-fault.ensures.open)
-    c.in_ok-place-in-ClauseClosed.ensures.0 (rw c.loop.invariant.same at c.in_ok-place-in-ClauseClosed.ensures.1))
+    c.in_ok-place-in-ClauseClosed.ensures.kept.0 (rw c.loop.invariant.same at c.in_ok-place-in-ClauseClosed.ensures.kept.1))
 
 pub returns-in-IncludeClosed-clause-part : goal.returns-in-IncludeClosed-clause-part
 returns-in-IncludeClosed-clause-part c =
