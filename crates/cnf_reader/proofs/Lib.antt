@@ -4,3 +4,4 @@ pub mod Taking
 pub mod Ends
 pub mod Going
 pub mod Reaching
+pub mod Entered

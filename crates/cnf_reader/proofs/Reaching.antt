@@ -124,7 +124,7 @@ module _ (told : Option Table) (root : Option (List ℕ)) (name : List ℕ) (sel
             (source_same selections file next goes.0)
 
     -- its file was opened
-    pub include_entered : (now : Kept) (inner : FileData) → Enters told root selections after next outer asked now inner → Reached told root name (asked.names ∷ selections) now (inner ∷ next ∷ outer)
+    pub include_entered : (now : Kept) (inner : FileData) → Enters told root after next (length outer) asked now inner → Reached told root name (asked.names ∷ selections) now (inner ∷ next ∷ outer)
     include_entered now inner enters = record {
       world = with_reads reached.world (next_read after) enters.first enters.second;
       files = with_told told reached.world (next_read after) enters.first enters.second reached.files;
@@ -133,11 +133,11 @@ module _ (told : Option Table) (root : Option (List ℕ)) (name : List ℕ) (sel
           let wide : SameBelow (next_read after + 2) (with_reads reached.world (next_read after) enters.first enters.second) other =
               λ k less. below k (omega (arith, enters.includes)) in
           at_include other (before_reads told reached.world other (next_read after) enters.first enters.second wide)
-          ∙ ap (λ r. and_then r (λ behind. resume other root selections behind (next ∷ outer))) (enters.gives other (at_reads told reached.world other (next_read after) enters.first enters.second wide));
+          ∙ ap (λ r. and_then r (λ behind. resume other root selections behind (next ∷ outer))) (enters.gives other (at_reads told reached.world other (next_read after) enters.first enters.second wide) selections);
     }
 
     -- a fault stands at it
-    pub include_refused : (fault : ReadFault) (refuses : Refuses told root selections after next outer asked fault)
+    pub include_refused : (fault : ReadFault) (refuses : Refuses told root after next (length outer) asked fault)
         → (world : World) × AreTold told world × (refuses.first.fails ≡ false → refuses.second.fails ≡ false → NeverFails world) × (reading_of world root name ≡ Err fault)
     include_refused fault refuses =
         let world = with_reads reached.world (next_read after) refuses.first refuses.second in
@@ -146,5 +146,5 @@ module _ (told : Option Table) (root : Option (List ℕ)) (name : List ℕ) (sel
           with_told told reached.world (next_read after) refuses.first refuses.second reached.files,
           with_whole told reached.world (next_read after) refuses.first refuses.second reached.whole,
           at_include world (before_reads told reached.world world (next_read after) refuses.first refuses.second (same_itself (next_read after + 2) world))
-          ∙ ap (λ r. and_then r (λ behind. resume world root selections behind (next ∷ outer))) (refuses.gives world (at_reads told reached.world world (next_read after) refuses.first refuses.second (same_itself (next_read after + 2) world))),
+          ∙ ap (λ r. and_then r (λ behind. resume world root selections behind (next ∷ outer))) (refuses.gives world (at_reads told reached.world world (next_read after) refuses.first refuses.second (same_itself (next_read after + 2) world)) selections),
         )

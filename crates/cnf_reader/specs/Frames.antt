@@ -78,18 +78,20 @@ pub record Reached (told : Option Table) (root : Option (List ℕ)) (name : List
   pub whole : NeverFails world
   pub reading : (other : World) → SameBelow (next_read kept) world other → reading_of other root name ≡ resume other root selections kept open_files
 
--- the file of an include was opened, and is to be read
-pub record Enters (told : Option Table) (root : Option (List ℕ)) (selections : List (Option (List Name))) (kept : Kept) (file : FileData) (outer : List FileData) (asked : Asked) (now : Kept) (inner : FileData) : Type 0 where
+-- the file of an include, which stands in a file with so many others around it, was opened and is to be read
+pub record Enters (told : Option Table) (root : Option (List ℕ)) (kept : Kept) (file : FileData) (depth : ℕ) (asked : Asked) (now : Kept) (inner : FileData) : Type 0 where
   pub first : Finding told
   pub second : Finding told
   pub whole : (first.fails ≡ false) × (second.fails ≡ false)
   pub includes : now.includes ≡ kept.includes + 1
-  pub gives : (world : World) → FindsTwo world (next_read kept) first second
-      → include_in world root (levels_in outer) (source_in selections file) asked kept
-      ≡ rest_of (λ early before. include_in world root (levels_in (file ∷ outer)) (source_in (asked.names ∷ selections) inner) early before) (asked.names ∷ selections) now inner
+  pub deep : depth < 15
+  pub fits : now.bytes ≤ 16777216
+  pub gives : (world : World) → FindsTwo world (next_read kept) first second → (selections : List (Option (List Name)))
+      → include_in world root (15 - depth) (source_in selections file) asked kept
+      ≡ rest_of (λ early before. include_in world root (15 - suc depth) (source_in (asked.names ∷ selections) inner) early before) (asked.names ∷ selections) now inner
 
 -- a fault stands at an include
-pub record Refuses (told : Option Table) (root : Option (List ℕ)) (selections : List (Option (List Name))) (kept : Kept) (file : FileData) (outer : List FileData) (asked : Asked) (fault : ReadFault) : Type 0 where
+pub record Refuses (told : Option Table) (root : Option (List ℕ)) (kept : Kept) (file : FileData) (depth : ℕ) (asked : Asked) (fault : ReadFault) : Type 0 where
   pub first : Finding told
   pub second : Finding told
-  pub gives : (world : World) → FindsTwo world (next_read kept) first second → include_in world root (levels_in outer) (source_in selections file) asked kept ≡ Err fault
+  pub gives : (world : World) → FindsTwo world (next_read kept) first second → (selections : List (Option (List Name))) → include_in world root (15 - depth) (source_in selections file) asked kept ≡ Err fault

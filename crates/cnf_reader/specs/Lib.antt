@@ -7,3 +7,4 @@ pub mod Reading
 pub mod Parts
 pub mod Openings
 pub mod Frames
+pub mod Entering

@@ -121,7 +121,7 @@ impl Model for OpenFiles {
 
     ghost Value = { List FileData };
 
-    ghost view = { λ open. reverse open.files.items };
+    ghost view = { λ stack. reverse stack.files.items };
 }
 
 impl OpenFiles {

@@ -3,6 +3,7 @@
 
 mod draft;
 mod end;
+mod enter;
 mod fault;
 mod files;
 mod kept;
