@@ -4,4 +4,5 @@ pub mod Taking
 pub mod Ends
 pub mod Going
 pub mod Reaching
+pub mod Tries
 pub mod Entered

@@ -1,25 +1,27 @@
 -- Under which names an included file is looked for.
-use Rattle.std.specs.Prelude.{ℕ, Bool, true, false, cond, ◌==◌, not, List, [], ◌∷◌, ◌++◌, length, take, drop, reverse, Option, Some, None, if◌then◌else◌}
-use Rattle.std.specs.List.{list_any}
+use Rattle.std.specs.Prelude.{ℕ, ◌+◌, ◌-◌, slice_get, Bool, true, false, cond, ◌==◌, not, List, [], ◌∷◌, ◌++◌, length, take, drop, reverse, Option, Some, None, if◌then◌else◌}
 
 -- the byte /
 abbrev pub slash : ℕ
 slash = 47
 
--- whether a slash is among the bytes
-abbrev pub has_slash : List ℕ → Bool
-has_slash bytes = list_any (λ byte. byte == slash) bytes
+-- whether the byte is a slash
+abbrev pub is_slash : Option ℕ → Bool
+is_slash None = false
+is_slash (Some byte) = byte == slash
 
 -- whether the last byte is a slash
 abbrev pub ends_with_slash : List ℕ → Bool
-ends_with_slash [] = false
-ends_with_slash (byte ∷ []) = byte == slash
-ends_with_slash (byte ∷ second ∷ bytes) = ends_with_slash (second ∷ bytes)
+ends_with_slash bytes = is_slash (slice_get bytes (length bytes - 1))
+
+-- the number of bytes up to the last slash, where `at` bytes were passed and `so_far` of them come up to a slash
+abbrev pub up_to_slash : ℕ → ℕ → List ℕ → ℕ
+up_to_slash at so_far [] = so_far
+up_to_slash at so_far (byte ∷ bytes) = up_to_slash (at + 1) (if byte == slash then at + 1 else so_far) bytes
 
 -- the part of a file's name up to its last slash
 abbrev pub folder_of : List ℕ → List ℕ
-folder_of [] = []
-folder_of (byte ∷ bytes) = cond (has_slash (byte ∷ bytes)) (byte ∷ folder_of bytes) []
+folder_of name = take (up_to_slash 0 0 name) name
 
 -- whether a name begins with a slash, and so is tried as it is
 abbrev pub is_absolute : List ℕ → Bool

@@ -1,6 +1,6 @@
 //! Under which names an included file is looked for.
 
-ghost use Rattle.std.specs.Prelude.{◌≡◌, ◌++◌, ◌∷◌, [], IfOk, List, Option, None, Some, length, take};
+ghost use Rattle.std.specs.Prelude.{◌≡◌, ◌≤◌, ◌++◌, ◌∷◌, [], IfOk, List, Option, None, Some, length, take};
 ghost use Rattle.std.specs.Option.{option_to_list, option_map};
 ghost use Rattle.cnf_reader.specs.Names as names;
 
@@ -23,9 +23,10 @@ fn is_absolute(file: &[u8]) -> bool
     }
 }
 
-// The length of the part up to the last slash.
+// The number of bytes up to the last slash.
 fn folder_len(name: &[u8]) -> usize
-    ensures { take result name.now ≡ names.folder_of name.now }
+    ensures count { result ≡ names.up_to_slash 0 0 name.now }
+    ensures within { result ≤ length name.now }
 {
     let mut len = 0;
     for (at, byte) in name.iter().enumerate() {
@@ -49,10 +50,7 @@ fn ends_with_slash(folder: &[u8]) -> bool
 fn beside(alloc: Global, including: &[u8], file: &[u8]) -> Result<Text, NoMemory>
     ensures { IfOk result (λ name. name ≡ names.folder_of including.now ++ file.now) }
 {
-    let mut name = Vec::new(alloc);
-    for byte in &including[..folder_len(including)] {
-        name.push(*byte)?;
-    }
+    let mut name = Vec::from_slice(alloc, &including[..folder_len(including)])?;
     name.extend_from_slice(file)?;
     Ok(Text::new(name))
 }
