@@ -126,12 +126,13 @@ module _ (told : Option Table) (root : Option (List ℕ)) (kept : Kept) (file : 
     }
 
 module _ (told : Option Table) (problem : List ℕ) (before now : Counts) where
-  pub begun : (bytes : Vec ℕ Global) (kept after : Kept) (file : FileData) → IsOpening told (problem ∷ []) most_bytes before now (Opened problem bytes) → after ≡ with_file problem bytes.items kept → file ≡ new_file problem (length kept.files) bytes.items
+  pub begun : (found : List ℕ) (bytes : Vec ℕ Global) (kept after : Kept) (file : FileData) → IsOpening told (problem ∷ []) most_bytes before now (Opened found bytes) → after ≡ with_file found bytes.items kept → file ≡ new_file found (length kept.files) bytes.items
       → IsBegun told problem kept after file
-  begun bytes kept after file opening after_is file_is = record {
+  begun found bytes kept after file opening after_is file_is = record {
     first = opening.first;
     second = opening.second;
     whole = opening.counts;
+    found = found;
     bytes = bytes.items;
     within = opening.fits;
     gives = λ world finds. opening.gives 0 world finds;

@@ -48,11 +48,12 @@ pub record IsBegun (told : Option Table) (name : List ℕ) (kept now : Kept) (fi
   pub first : Finding told
   pub second : Finding told
   pub whole : (first.fails ≡ false) × (second.fails ≡ false)
+  pub found : List ℕ
   pub bytes : List ℕ
   pub within : length bytes ≤ most_bytes
-  pub gives : (world : World) → FindsTwo world 0 first second → open_first world 0 most_bytes (name ∷ []) ≡ opened name bytes
-  pub now_is : now ≡ with_file name bytes kept
-  pub file_is : file ≡ new_file name (length kept.files) bytes
+  pub gives : (world : World) → FindsTwo world 0 first second → open_first world 0 most_bytes (name ∷ []) ≡ opened found bytes
+  pub now_is : now ≡ with_file found bytes kept
+  pub file_is : file ≡ new_file found (length kept.files) bytes
 
 -- a fault stands at the problem file, with its cause
 pub record BeginsNotBy (told : Option Table) (name : List ℕ) (before now : Counts) (kind : ReadKind) (fault : ReadFault) : Type 0 where

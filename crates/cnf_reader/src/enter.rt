@@ -140,6 +140,17 @@ pub fn enter<F: Files>(
     }
 }
 
+// This name alone.
+fn only(alloc: Global, name: &str) -> Result<Tries, NoMemory>
+    ensures { IfOk result (λ tries. tries ≡ record { first = name.now; second = None }) }
+{
+    let first = Text::new(Vec::from_slice(alloc, name.as_bytes())?);
+    Ok(Tries {
+        first,
+        second: None,
+    })
+}
+
 /// Opens the problem file, or answers the fault that stands there.
 pub fn begin<F: Files>(
     alloc: Global,
@@ -158,10 +169,7 @@ pub fn begin<F: Files>(
         (record { faults = F.faults files.old; absences = F.absences files.old; overruns = F.overruns files.old })
         (record { faults = F.faults files.new; absences = F.absences files.new; overruns = F.overruns files.new }) fault) }
 {
-    let tries = Tries {
-        first: Text::new(Vec::from_slice(alloc, name.as_bytes()).map_err(NoMemory::from)?),
-        second: None,
-    };
+    let tries = only(alloc, name)?;
     match open(alloc, files, tries, MOST_BYTES)? {
         Found::Opened(name, bytes) => Ok(admit(alloc, kept, name, bytes)?),
         Found::Absent => Err(fault_at(
