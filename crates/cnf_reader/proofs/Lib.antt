@@ -6,3 +6,4 @@ pub mod Going
 pub mod Reaching
 pub mod Tries
 pub mod Entered
+pub mod Answering

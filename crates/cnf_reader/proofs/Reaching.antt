@@ -29,7 +29,7 @@ source_same selections f g same =
     λ i. record { name = names i; number = numbers i; bytes = bytes i; selections = selections }
 
 -- the world with what these two reads find
-with_reads : {told : Option Table} → World → ℕ → Finding told → Finding told → World
+pub with_reads : {told : Option Table} → World → ℕ → Finding told → Finding told → World
 with_reads world number first second = record {
   files = λ k. cond (nat_eq k number) first.files (cond (nat_eq k (suc number)) second.files (world.files k));
   fails = λ k. cond (nat_eq k number) first.fails (cond (nat_eq k (suc number)) second.fails (world.fails k));
@@ -43,12 +43,12 @@ false_if : (b first second : Bool) → first ≡ false → second ≡ false → 
 false_if true first second one two = one
 false_if false first second one two = two
 
-with_told : (told : Option Table) (world : World) (number : ℕ) (first second : Finding told) → AreTold told world → AreTold told (with_reads world number first second)
+pub with_told : (told : Option Table) (world : World) (number : ℕ) (first second : Finding told) → AreTold told world → AreTold told (with_reads world number first second)
 unfolding with_reads
 with_told None world number first second files = tt
 with_told (Some told) world number first second files = λ k. told_if told first.files (nat_eq k number) _ first.is_told (told_if told second.files (nat_eq k (suc number)) _ second.is_told (files k))
 
-with_whole : (told : Option Table) (world : World) (number : ℕ) (first second : Finding told) → NeverFails world → first.fails ≡ false → second.fails ≡ false → NeverFails (with_reads world number first second)
+pub with_whole : (told : Option Table) (world : World) (number : ℕ) (first second : Finding told) → NeverFails world → first.fails ≡ false → second.fails ≡ false → NeverFails (with_reads world number first second)
 unfolding with_reads
 with_whole told world number first second whole one two = λ k. false_if (nat_eq k number) first.fails _ one (false_if (nat_eq k (suc number)) second.fails _ two (whole k))
 
@@ -65,7 +65,7 @@ one_more : (k : ℕ) → nat_eq (suc k) k ≡ false
 one_more k = grind (arith, nat_tests)
 
 -- worlds that are the same up to these reads are the same before them
-before_reads : (told : Option Table) (world other : World) (number : ℕ) (first second : Finding told) → SameBelow (number + 2) (with_reads world number first second) other → SameBelow number world other
+pub before_reads : (told : Option Table) (world other : World) (number : ℕ) (first second : Finding told) → SameBelow (number + 2) (with_reads world number first second) other → SameBelow number world other
 unfolding with_reads
 before_reads told world other number first second same = λ k below.
     let at = same k (omega arith) in
@@ -74,7 +74,7 @@ before_reads told world other number first second same = λ k below.
     (rw (here, there) at at.0, rw (here, there) at at.1)
 
 -- and find these
-at_reads : (told : Option Table) (world other : World) (number : ℕ) (first second : Finding told) → SameBelow (number + 2) (with_reads world number first second) other → FindsTwo other number first second
+pub at_reads : (told : Option Table) (world other : World) (number : ℕ) (first second : Finding told) → SameBelow (number + 2) (with_reads world number first second) other → FindsTwo other number first second
 unfolding with_reads
 at_reads told world other number first second same =
     let at = same number (omega arith) in
@@ -106,10 +106,10 @@ module _ (told : Option Table) (root : Option (List ℕ)) (name : List ℕ) (sel
   }
 
   -- a fault stands in the file
-  pub fault_met : (kind : ReadKind) (line column : ℕ) → Advances selections kept file (Fault kind line column) after next → reading_of reached.world root name ≡ fault_at kind file.name line column
+  pub fault_met : (kind : ReadKind) (line column : ℕ) → Advances selections kept file (Fault kind line column) after next → reading_of reached.world root name ≡ fault_at kind next.name line column
   fault_met kind line column goes =
       reached.reading reached.world (same_itself (next_read kept) reached.world)
-      ∙ ap (λ r. and_then r (λ later. resume reached.world root (drop 1 selections) later outer)) (goes (λ asked early. include_in reached.world root (levels_in outer) (source_in selections file) asked early))
+      ∙ ap (λ r. and_then r (λ later. resume reached.world root (drop 1 selections) later outer)) (goes.1 (λ asked early. include_in reached.world root (levels_in outer) (source_in selections file) asked early)) ∙ ap (λ n. fault_at kind n line column) (sym goes.0.0)
 
   module _ (asked : Asked) (goes : Advances selections kept file (Include asked) after next) (stays : Stays kept after) where
     -- how the reading goes on at an include

@@ -51,7 +51,7 @@ Advances selections kept f Ended after g = (lower : Lower) → rest_of lower sel
 Advances selections kept f Clause after g = IsSame f g × ((lower : Lower) → rest_of lower selections kept f ≡ rest_of lower selections after g)
 Advances selections kept f (Include asked) after g =
     IsSame f g × ((lower : Lower) → rest_of lower selections kept f ≡ and_then (lower asked after) (λ behind. rest_of lower selections behind g))
-Advances selections kept f (Fault kind line column) after g = (lower : Lower) → rest_of lower selections kept f ≡ fault_at kind f.name line column
+Advances selections kept f (Fault kind line column) after g = IsSame f g × ((lower : Lower) → rest_of lower selections kept f ≡ fault_at kind f.name line column)
 
 -- how many levels are left below a file that stands in so many others
 abbrev pub levels_in : List FileData → ℕ
@@ -95,3 +95,10 @@ pub record Refuses (told : Option Table) (root : Option (List ℕ)) (kept : Kept
   pub first : Finding told
   pub second : Finding told
   pub gives : (world : World) → FindsTwo world (next_read kept) first second → (selections : List (Option (List Name))) → include_in world root (15 - depth) (source_in selections file) asked kept ≡ Err fault
+
+-- the files of that name and root read as what is kept
+pub record ReadsKept (told : Option Table) (name : List ℕ) (root : Option (List ℕ)) (kept : Kept) : Type 0 where
+  pub world : World
+  pub files : AreTold told world
+  pub whole : NeverFails world
+  pub reading : reading_of world root name ≡ Ok kept

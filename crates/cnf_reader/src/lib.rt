@@ -4,6 +4,7 @@
 mod draft;
 mod end;
 mod enter;
+mod facts;
 mod fault;
 mod files;
 mod kept;
@@ -12,7 +13,9 @@ mod numbers;
 mod opening;
 mod part;
 mod pending;
+mod reading;
 mod selections;
 mod text;
 
 pub use fault::{ReadFault, ReadKind};
+pub use reading::read_problem;

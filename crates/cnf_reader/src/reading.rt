@@ -1,0 +1,155 @@
+//! The reading of a problem from its files.
+
+ghost use Rattle.std.specs.Prelude.{◌≡◌, ◌≤◌, ◌∷◌, OnOk, IfOk, MatchResult};
+ghost use Rattle.std.specs.Option.{option_map};
+ghost use Rattle.cnf_reader.specs.Reading.{Reads, IsFault, nothing_kept};
+ghost use Rattle.cnf_reader.specs.Entering.{is_of_text, IsTextFault};
+ghost use Rattle.cnf_reader.specs.Frames.{ReadsKept};
+
+use crate::enter::{begin, enter, fault_at};
+use crate::facts::make_input;
+use crate::fault::{ReadFault, ReadKind};
+use crate::files::{OpenFile, OpenFiles, Step};
+use crate::kept::Kept;
+use crate::pending::Asked;
+use crate::selections::Selections;
+use mg_outside::Files;
+use mg_word::{Input, Items, Name, NoMemory, Symbols};
+use std::alloc::Global;
+
+// Whether faults of this kind stand at tokens of a file.
+fn is_of_text(kind: ReadKind) -> bool
+    ensures { result ≡ is_of_text kind }
+{
+    !matches!(
+        kind,
+        ReadKind::IncludeAbsent | ReadKind::TooLong | ReadKind::ProblemAbsent | ReadKind::Files
+    )
+}
+
+// The fault at this place of a file. No fault of a file's opening stands at its tokens.
+fn fault_in(alloc: Global, kind: ReadKind, file: &[u8], line: u32, column: u32) -> ReadFault
+    ensures { IsTextFault kind file.now line column result }
+{
+    if is_of_text(kind) {
+        return fault_at(alloc, kind, file, line, column, &[]);
+    }
+    ReadFault::NoMemory
+}
+
+// Nothing is kept yet.
+fn make_kept(alloc: Global) -> Result<Kept, NoMemory>
+    ensures { IfOk result (λ kept. kept ≡ nothing_kept) }
+{
+    Ok(Kept {
+        symbols: Symbols::new(alloc)?,
+        files: Items::empty(alloc),
+        clauses: Items::empty(alloc),
+        includes: 0,
+        bytes: 0,
+    })
+}
+
+// Leaves a file open around another, which is read under these names too.
+fn go_in(
+    selections: &mut Selections,
+    outer: &mut OpenFiles,
+    names: Option<Items<Name>>,
+    file: OpenFile,
+) -> Result<(), NoMemory>
+    ensures { OnOk result ((selections.new ≡ names ∷ selections.old) × (outer.new ≡ file ∷ outer.old)) }
+{
+    selections.push(names)?;
+    outer.push(file)?;
+    Ok(())
+}
+
+// Reads all files of a problem, one statement after the other.
+fn read_files<F: Files>(
+    alloc: Global,
+    files: &mut F,
+    name: &str,
+    root: Option<&str>,
+) -> Result<Kept, ReadFault>
+    ensures same { F.table files.new ≡ F.table files.old }
+    ensures faults { F.faults files.old ≤ F.faults files.new }
+    ensures absences { F.absences files.old ≤ F.absences files.new }
+    ensures overruns { F.overruns files.old ≤ F.overruns files.new }
+    ensures read { MatchResult result
+        (λ kept. ReadsKept (F.table files.old) name.now (option_map (λ r. r.now) root.entry) kept)
+        (λ fault. IsFault (F.table files.old) name.now (option_map (λ r. r.now) root.entry)
+            (record { faults = F.faults files.old; absences = F.absences files.old; overruns = F.overruns files.old })
+            (record { faults = F.faults files.new; absences = F.absences files.new; overruns = F.overruns files.new }) fault) }
+{
+    let mut kept = make_kept(alloc)?;
+    let mut file = match begin(alloc, files, &mut kept, name) {
+        Ok(file) => file,
+        Err(fault) => return Err(fault),
+    };
+    let mut outer = OpenFiles::empty(alloc);
+    let mut selections = Selections::empty(alloc);
+    selections.push(None)?;
+    for _ in 0..u64::MAX {
+        let (step, next) = file.read(alloc, &selections, &mut kept)?;
+        match step {
+            Step::Ended => {
+                let Some(around) = outer.pop() else {
+                    return Ok(kept);
+                };
+                selections.close();
+                file = around;
+                continue;
+            }
+            Step::Clause => {
+                file = next;
+                continue;
+            }
+            Step::Include(asked) => {
+                let inner = match enter(alloc, files, root, &mut kept, &next, outer.len(), &asked) {
+                    Ok(inner) => inner,
+                    Err(fault) => return Err(fault),
+                };
+                let Asked {
+                    file: _,
+                    line: _,
+                    column: _,
+                    names,
+                } = asked;
+                let Ok(()) = go_in(&mut selections, &mut outer, names, next) else {
+                    return Err(ReadFault::NoMemory);
+                };
+                file = inner;
+                continue;
+            }
+            Step::Fault(kind, line, column) => {
+                return Err(fault_in(alloc, kind, next.name(), line, column));
+            }
+        }
+    }
+    Err(ReadFault::NoMemory)
+}
+
+/// Reads a problem from its file and the files that it includes. A name that an include has is tried
+/// beside the file that has it, and then, where a root is given, at the root; a name that begins
+/// with a slash is tried as it is. The first fault in reading order is answered, with its place.
+pub fn read_problem<F: Files>(
+    alloc: Global,
+    files: &mut F,
+    name: &str,
+    root: Option<&str>,
+) -> Result<Input, ReadFault>
+    ensures same { F.table files.new ≡ F.table files.old }
+    ensures faults { F.faults files.old ≤ F.faults files.new }
+    ensures absences { F.absences files.old ≤ F.absences files.new }
+    ensures overruns { F.overruns files.old ≤ F.overruns files.new }
+    ensures read { MatchResult result
+        (λ input. Reads (F.table files.old) name.now (option_map (λ r. r.now) root.entry) input)
+        (λ fault. IsFault (F.table files.old) name.now (option_map (λ r. r.now) root.entry)
+            (record { faults = F.faults files.old; absences = F.absences files.old; overruns = F.overruns files.old })
+            (record { faults = F.faults files.new; absences = F.absences files.new; overruns = F.overruns files.new }) fault) }
+{
+    match read_files(alloc, files, name, root) {
+        Ok(kept) => Ok(make_input(kept)?),
+        Err(fault) => Err(fault),
+    }
+}
