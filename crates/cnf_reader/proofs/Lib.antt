@@ -7,3 +7,4 @@ pub mod Reaching
 pub mod Tries
 pub mod Entered
 pub mod Answering
+pub mod Checking

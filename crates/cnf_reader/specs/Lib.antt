@@ -8,3 +8,4 @@ pub mod Parts
 pub mod Openings
 pub mod Frames
 pub mod Entering
+pub mod Checks

@@ -1,11 +1,13 @@
 //! The facts that each input keeps, looked at once all files are read.
 
-ghost use Rattle.std.specs.Prelude.{◌≡◌, ◌<◌, ℕ, false, IsTrue, OnTrue, All, IfOk};
+ghost use Rattle.std.specs.Prelude.{◌≡◌, ◌<◌, ℕ, false, IsTrue, All, IfOk, IfSome};
+ghost use Rattle.std.specs.Bool.{OnTrue};
 ghost use Rattle.std.specs.List.{list_all, flat_map};
 ghost use Rattle.mg_word.specs.Facts as facts;
 ghost use Rattle.mg_word.specs.Forms.{is_among, pattern_variables};
 ghost use Rattle.mg_word.specs.Words.{pattern_fits, numbered};
 ghost use Rattle.std.specs.Option.{option_map_or};
+ghost use Rattle.cnf_reader.specs.Checks.{Leaves};
 ghost use Rattle.cnf_reader.specs.Keeping.{input_of};
 
 use crate::kept::Kept;
@@ -81,29 +83,40 @@ fn are_symbols(symbols: &Symbols) -> bool
     true
 }
 
+// How many terms are wanted behind the item, where so many were before it and it may be here. More
+// than can be counted are more than any pattern has.
+fn wanted_behind(symbols: &Symbols, variables: usize, wanted: u64, item: Item) -> Option<u64>
+    ensures { IfSome result (λ left. Leaves symbols.now variables wanted item left) }
+{
+    if wanted == 0 || wanted > 4_294_967_296 {
+        return None;
+    }
+    match item {
+        Item::Sym(id) => {
+            if id >= symbols.len() {
+                return None;
+            }
+            Some(wanted - 1 + symbols.arity(id) as u64)
+        }
+        Item::Var(variable) => {
+            if variable as usize >= variables {
+                return None;
+            }
+            Some(wanted - 1)
+        }
+    }
+}
+
 // Whether the pattern is one term or atom over the symbols and so many variables.
 fn fits(symbols: &Symbols, variables: usize, pattern: &[Item]) -> bool
     ensures { OnTrue result (IsTrue (pattern_fits symbols.now variables pattern.now)) }
 {
-    let mut wanted: u64 = 1;
+    let mut wanted = 1;
     for item in pattern {
-        if wanted == 0 {
+        let Some(left) = wanted_behind(symbols, variables, wanted, *item) else {
             return false;
-        }
-        wanted -= 1;
-        match *item {
-            Item::Sym(id) => {
-                if id >= symbols.len() || wanted > 4_294_967_296 {
-                    return false;
-                }
-                wanted += symbols.arity(id) as u64;
-            }
-            Item::Var(variable) => {
-                if variable as usize >= variables {
-                    return false;
-                }
-            }
-        }
+        };
+        wanted = left;
     }
     wanted == 0
 }

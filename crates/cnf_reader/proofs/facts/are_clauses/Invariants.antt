@@ -6,4 +6,4 @@ use Rattle.mg_word.specs.Words.{are_patterns, pattern_fits}
 use Rattle.cnf_reader.proofs.facts.are_clauses.Given as goal
 
 abbrev pub invariant-loop-clause : goal.invariant-loop-clause
-invariant-loop-clause l = All (facts.IsClause l.symbols l.files) (take l.clause-index l.clauses)
+invariant-loop-clause l = All (facts.IsClause l.symbols l.files) (drop l.clause-index l.clauses) → All (facts.IsClause l.symbols l.files) l.clauses
