@@ -62,8 +62,7 @@ module _ (told : Option Table) (root : Option (List ℕ)) (name : List ℕ) (sel
       → IsFault told name root start now fault
   include_met start before now asked NoMemory later goes stays refused = tt
   include_met start before now asked (At kind where_is line column subject) later goes stays refused =
-      let met = include_refused told root name selections kept after file next outer reached asked goes stays (At kind where_is line column subject) refused.refuses in
-      (
+      let met = include_refused told root name selections kept after file next outer reached asked goes stays (At kind where_is line column subject) refused.refuses in (
         stands told name root kind (At kind where_is line column subject) met.0 refused.refuses.first.fails refused.refuses.second.fails met.1 met.2 refused.whole met.3,
         risen_later kind start before now later refused.risen,
       )
@@ -109,9 +108,8 @@ unfolding reading_of
 not_begun told root name before now NoMemory refused = tt
 not_begun told root name before now (At kind where_is line column subject) refused =
     let first = calm told in
-    let world = with_reads first.0 0 refused.first refused.second in
-    (
+    let world = with_reads first.0 0 refused.first refused.second in (
       stands told name root kind (At kind where_is line column subject) world refused.first.fails refused.second.fails (with_told told first.0 0 refused.first refused.second first.1) (with_whole told first.0 0 refused.first refused.second first.2) refused.whole
-      (refused.gives world (at_reads told first.0 world 0 refused.first refused.second (same_itself (0 + 2) world)) root),
+          (refused.gives world (at_reads told first.0 world 0 refused.first refused.second (same_itself (0 + 2) world)) root),
       refused.risen,
     )

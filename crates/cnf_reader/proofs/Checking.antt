@@ -66,10 +66,10 @@ variable_leaves table variables (suc n) variable left within some is rest fits =
     rw below (subst (λ l. IsTrue (are_patterns table variables l rest)) count fits)
 
 -- one more item of a pattern
-pub item_checked : (table : List Symbol) (variables wanted left : ℕ) (pattern : List Item) (i : ℕ) (item : Item) (whole : Type 0) → i < length pattern → item ≡ get_or pattern i item → Leaves table variables wanted item left
+pub item_checked : (table : List Symbol) (variables wanted left : ℕ) (pattern : List Item) (i : ℕ) (d : Item) (whole : Type 0) → i < length pattern → Leaves table variables wanted (get_or pattern i d) left
     → (IsTrue (are_patterns table variables wanted (drop i pattern)) → whole) → IsTrue (are_patterns table variables left (drop (i + 1) pattern)) → whole
-item_checked table variables wanted left pattern i item whole within is leaves so_far behind =
-    so_far (subst (λ l. IsTrue (are_patterns table variables wanted l)) (sym (from_element pattern i item within is)) (leaves (drop (i + 1) pattern) behind))
+item_checked table variables wanted left pattern i d whole within leaves so_far behind =
+    so_far (subst (λ l. IsTrue (are_patterns table variables wanted l)) (sym (drop-cons pattern i d within)) (leaves (drop (suc i) pattern) (subst (λ n. IsTrue (are_patterns table variables left (drop n pattern))) (add-one i) behind)))
 
 -- a clause of which all facts but those of its items are known
 pub clause_checked : (table : List Symbol) (files : ℕ) (clause : Clause) (b : Bool) → b ≡ list_all (are_choices 0 clause.literals) clause.conclude → IsTrue (list_all (literal_fits table (length clause.variables)) clause.literals)

@@ -8,3 +8,4 @@ pub mod Tries
 pub mod Entered
 pub mod Answering
 pub mod Checking
+pub mod OneReading

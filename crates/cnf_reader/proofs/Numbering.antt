@@ -54,10 +54,9 @@ interned_by table new symbol id true test different number held added =
     let same = held (contained table symbol test) in
     (number_unique new different id (number_in table symbol) symbol number (subst (λ list. slice_get list (number_in table symbol) ≡ Some symbol) (sym same) (found table symbol test)), same)
 interned_by table new symbol id false test different number held added =
-    let more = added (λ inside. true≢false (sym (held_if table symbol inside) ∙ test)) in
-    (
+    let more = added (λ inside. true≢false (sym (held_if table symbol inside) ∙ test)) in (
       number_unique new different id (number_in table symbol) symbol number
-      (subst (λ list. slice_get list (number_in table symbol) ≡ Some symbol) (sym more) (ap (λ n. slice_get (table ++ symbol ∷ []) n) (missing table symbol test) ∙ last_is table symbol)),
+          (subst (λ list. slice_get list (number_in table symbol) ≡ Some symbol) (sym more) (ap (λ n. slice_get (table ++ symbol ∷ []) n) (missing table symbol test) ∙ last_is table symbol)),
       more,
     )
 

@@ -121,7 +121,7 @@ module _ (told : Option Table) (root : Option (List ℕ)) (name : List ℕ) (sel
         ∙ ap (λ r. and_then r (λ later. resume other root (drop 1 selections) later outer)) (goes.1 (λ early before. include_in other root (levels_in outer) (source_in selections file) early before))
         ∙ chain (include_in other root (levels_in outer) (source_in selections file) asked after) _ _
         ∙ ap (λ s. and_then (include_in other root (levels_in outer) s asked after) (λ behind. and_then (rest_of (λ early before. include_in other root (levels_in outer) s early before) selections behind next) (λ later. resume other root (drop 1 selections) later outer)))
-            (source_same selections file next goes.0)
+        (source_same selections file next goes.0)
 
     -- its file was opened
     pub include_entered : (now : Kept) (inner : FileData) → Enters told root after next (length outer) asked now inner → Reached told root name (asked.names ∷ selections) now (inner ∷ next ∷ outer)
@@ -131,7 +131,7 @@ module _ (told : Option Table) (root : Option (List ℕ)) (name : List ℕ) (sel
       whole = with_whole told reached.world (next_read after) enters.first enters.second reached.whole enters.whole.0 enters.whole.1;
       reading = λ other below.
           let wide : SameBelow (next_read after + 2) (with_reads reached.world (next_read after) enters.first enters.second) other =
-              λ k less. below k (omega (arith, enters.includes)) in
+          λ k less. below k (omega (arith, enters.includes)) in
           at_include other (before_reads told reached.world other (next_read after) enters.first enters.second wide)
           ∙ ap (λ r. and_then r (λ behind. resume other root selections behind (next ∷ outer))) (enters.gives other (at_reads told reached.world other (next_read after) enters.first enters.second wide) selections);
     }
@@ -140,11 +140,10 @@ module _ (told : Option Table) (root : Option (List ℕ)) (name : List ℕ) (sel
     pub include_refused : (fault : ReadFault) (refuses : Refuses told root after next (length outer) asked fault)
         → (world : World) × AreTold told world × (refuses.first.fails ≡ false → refuses.second.fails ≡ false → NeverFails world) × (reading_of world root name ≡ Err fault)
     include_refused fault refuses =
-        let world = with_reads reached.world (next_read after) refuses.first refuses.second in
-        (
+        let world = with_reads reached.world (next_read after) refuses.first refuses.second in (
           world,
           with_told told reached.world (next_read after) refuses.first refuses.second reached.files,
           with_whole told reached.world (next_read after) refuses.first refuses.second reached.whole,
           at_include world (before_reads told reached.world world (next_read after) refuses.first refuses.second (same_itself (next_read after + 2) world))
-          ∙ ap (λ r. and_then r (λ behind. resume world root selections behind (next ∷ outer))) (refuses.gives world (at_reads told reached.world world (next_read after) refuses.first refuses.second (same_itself (next_read after + 2) world)) selections),
+              ∙ ap (λ r. and_then r (λ behind. resume world root selections behind (next ∷ outer))) (refuses.gives world (at_reads told reached.world world (next_read after) refuses.first refuses.second (same_itself (next_read after + 2) world)) selections),
         )

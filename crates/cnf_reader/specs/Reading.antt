@@ -1,5 +1,5 @@
 -- The reading of a problem from its files: the input that they stand for, or the first fault.
-use Rattle.std.specs.Prelude.{◌≡◌, ℕ, zero, suc, ◌+◌, ◌-◌, ◌*◌, ◌<◌, Bool, true, false, cond, nat_le, List, [], ◌∷◌, ◌++◌, length, slice_range, Option, Some, None, Result, Ok, Err, if◌then◌else◌}
+use Rattle.std.specs.Prelude.{◌≡◌, ◌⊎◌, ℕ, zero, suc, ◌+◌, ◌-◌, ◌*◌, ◌<◌, Bool, true, false, cond, nat_le, List, [], ◌∷◌, ◌++◌, length, slice_range, Option, Some, None, Result, Ok, Err, if◌then◌else◌}
 use Rattle.mg_word.specs.Facts.{InputData}
 use Rattle.mg_word.specs.declared.clause.Name.{Name}
 use Rattle.mg_outside.specs.Causes.{Rose}
@@ -214,3 +214,7 @@ StandsBy kind told name root fault = StandsFirst told name root fault
 abbrev pub IsFault : Option Table → List ℕ → Option (List ℕ) → Counts → Counts → ReadFault → Type 0
 IsFault told name root before now (At kind file line column subject) = StandsBy kind told name root (At kind file line column subject) × HasRisen kind before now
 IsFault told name root before now NoMemory = Unit {0}
+
+-- told files read as some input, or some fault stands first in them
+abbrev pub IsReadSome : Table → List ℕ → Option (List ℕ) → Type 0
+IsReadSome told name root = ((input : InputData) × Reads (Some told) name root input) ⊎ ((fault : ReadFault) × StandsFirst (Some told) name root fault)

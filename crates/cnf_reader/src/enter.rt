@@ -172,29 +172,8 @@ pub fn begin<F: Files>(
     let tries = only(alloc, name)?;
     match open(alloc, files, tries, MOST_BYTES)? {
         Found::Opened(name, bytes) => Ok(admit(alloc, kept, name, bytes)?),
-        Found::Absent => Err(fault_at(
-            alloc,
-            ReadKind::ProblemAbsent,
-            name.as_bytes(),
-            1,
-            1,
-            &[],
-        )),
-        Found::TooLong => Err(fault_at(
-            alloc,
-            ReadKind::TooLong,
-            name.as_bytes(),
-            1,
-            1,
-            &[],
-        )),
-        Found::Failed => Err(fault_at(
-            alloc,
-            ReadKind::Files,
-            name.as_bytes(),
-            1,
-            1,
-            &[],
-        )),
+        Found::Absent => Err(fault_at(alloc, ReadKind::ProblemAbsent, name.as_bytes(), 1, 1, &[])),
+        Found::TooLong => Err(fault_at(alloc, ReadKind::TooLong, name.as_bytes(), 1, 1, &[])),
+        Found::Failed => Err(fault_at(alloc, ReadKind::Files, name.as_bytes(), 1, 1, &[])),
     }
 }

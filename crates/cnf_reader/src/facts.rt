@@ -76,7 +76,11 @@ fn are_symbols(symbols: &Symbols) -> bool
     ensures { OnTrue result (IsTrue (list_all facts.is_symbol symbols.now)) }
 {
     for id in 0..symbols.len() {
-        if !suits(symbols.kind(id), symbols.name(id).as_bytes(), symbols.arity(id)) {
+        if !suits(
+            symbols.kind(id),
+            symbols.name(id).as_bytes(),
+            symbols.arity(id),
+        ) {
             return false;
         }
     }

@@ -95,7 +95,10 @@ impl OpenFile {
             Part::Ended => (Step::Ended, Place::start(alloc)),
             Part::Clause(place) => (Step::Clause, place),
             Part::Include(place, asked) => (Step::Include(asked), place),
-            Part::Fault(kind, line, column) => (Step::Fault(kind, line, column), Place::start(alloc)),
+            Part::Fault(kind, line, column) => (
+                Step::Fault(kind, line, column),
+                Place::start(alloc),
+            ),
         };
         let file = OpenFile {
             name,

@@ -8,6 +8,7 @@ mod facts;
 mod fault;
 mod files;
 mod kept;
+mod laws;
 mod names;
 mod numbers;
 mod opening;
@@ -15,7 +16,10 @@ mod part;
 mod pending;
 mod reading;
 mod selections;
+#[cfg(test)]
+mod tests;
 mod text;
 
 pub use fault::{ReadFault, ReadKind};
+pub use laws::files_read_as_one_thing;
 pub use reading::read_problem;

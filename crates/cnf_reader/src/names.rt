@@ -68,7 +68,12 @@ fn at_root(alloc: Global, root: &[u8], file: &[u8]) -> Result<Text, NoMemory>
 }
 
 /// The names to try for a file that is included by another.
-pub fn make_tries(alloc: Global, root: Option<&str>, including: &[u8], file: &[u8]) -> Result<Tries, NoMemory>
+pub fn make_tries(
+    alloc: Global,
+    root: Option<&str>,
+    including: &[u8],
+    file: &[u8],
+) -> Result<Tries, NoMemory>
     ensures { IfOk result (λ made. made.first ∷ option_to_list made.second ≡ names.tries (option_map (λ r. r.now) root.entry) including.now file.now) }
 {
     if is_absolute(file) {

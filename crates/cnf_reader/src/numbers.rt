@@ -52,7 +52,11 @@ fn number_item(alloc: Global, symbols: &mut Symbols, item: &RawItem) -> Result<I
 }
 
 // The items with the numbers of their symbols.
-fn number_items(alloc: Global, symbols: &mut Symbols, items: &[RawItem]) -> Result<Vec<Item>, NoMemory>
+fn number_items(
+    alloc: Global,
+    symbols: &mut Symbols,
+    items: &[RawItem],
+) -> Result<Vec<Item>, NoMemory>
     ensures { IfOk result (λ made. (made.items ≡ keeping.numbered_items symbols.old (map item_seen items.now)) × (symbols.new ≡ keeping.with_items symbols.old (map item_seen items.now))) }
 {
     let mut made = Vec::with_capacity(alloc, items.len())?;
@@ -63,7 +67,11 @@ fn number_items(alloc: Global, symbols: &mut Symbols, items: &[RawItem]) -> Resu
 }
 
 // The literal with the numbers of its symbols.
-fn number_literal(alloc: Global, symbols: &mut Symbols, literal: &RawLiteral) -> Result<ClauseLit, NoMemory>
+fn number_literal(
+    alloc: Global,
+    symbols: &mut Symbols,
+    literal: &RawLiteral,
+) -> Result<ClauseLit, NoMemory>
     ensures { IfOk result (λ made. (made ≡ keeping.numbered_literal symbols.old (literal_seen literal.now)) × (symbols.new ≡ keeping.with_literal symbols.old (literal_seen literal.now))) }
 {
     match literal {
@@ -80,7 +88,11 @@ fn number_literal(alloc: Global, symbols: &mut Symbols, literal: &RawLiteral) ->
 }
 
 /// The literals with the numbers of their symbols, which go last where they are new.
-pub fn number_literals(alloc: Global, symbols: &mut Symbols, literals: &[RawLiteral]) -> Result<Vec<ClauseLit>, NoMemory>
+pub fn number_literals(
+    alloc: Global,
+    symbols: &mut Symbols,
+    literals: &[RawLiteral],
+) -> Result<Vec<ClauseLit>, NoMemory>
     ensures { IfOk result (λ made. (made.items ≡ keeping.numbered_literals symbols.old (map literal_seen literals.now)) × (symbols.new ≡ keeping.with_literals symbols.old (map literal_seen literals.now))) }
 {
     let mut made = Vec::with_capacity(alloc, literals.len())?;

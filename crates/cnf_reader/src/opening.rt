@@ -32,7 +32,12 @@ pub enum Found {
 }
 
 /// Tries to read the file of this name, of at most so many bytes.
-pub fn try_name<F: Files>(alloc: Global, files: &mut F, name: &str, limit: u64) -> Result<Tried, NoMemory>
+pub fn try_name<F: Files>(
+    alloc: Global,
+    files: &mut F,
+    name: &str,
+    limit: u64,
+) -> Result<Tried, NoMemory>
     ensures same { F.table files.new ≡ F.table files.old }
     ensures faults { F.faults files.old ≤ F.faults files.new }
     ensures absences { F.absences files.old ≤ F.absences files.new }
@@ -52,7 +57,12 @@ pub fn try_name<F: Files>(alloc: Global, files: &mut F, name: &str, limit: u64) 
 }
 
 // The same for a name as bytes. Names are those of UTF-8 texts, cut at slashes.
-fn try_bytes<F: Files>(alloc: Global, files: &mut F, name: &Text, limit: u64) -> Result<Tried, NoMemory>
+fn try_bytes<F: Files>(
+    alloc: Global,
+    files: &mut F,
+    name: &Text,
+    limit: u64,
+) -> Result<Tried, NoMemory>
     ensures same { F.table files.new ≡ F.table files.old }
     ensures faults { F.faults files.old ≤ F.faults files.new }
     ensures absences { F.absences files.old ≤ F.absences files.new }
@@ -68,7 +78,12 @@ fn try_bytes<F: Files>(alloc: Global, files: &mut F, name: &Text, limit: u64) ->
 }
 
 /// Tries the names in order: the second only where the first is absent.
-pub fn open<F: Files>(alloc: Global, files: &mut F, tries: Tries, limit: u64) -> Result<Found, NoMemory>
+pub fn open<F: Files>(
+    alloc: Global,
+    files: &mut F,
+    tries: Tries,
+    limit: u64,
+) -> Result<Found, NoMemory>
     ensures same { F.table files.new ≡ F.table files.old }
     ensures faults { F.faults files.old ≤ F.faults files.new }
     ensures absences { F.absences files.old ≤ F.absences files.new }

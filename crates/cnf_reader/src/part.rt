@@ -111,11 +111,7 @@ pub fn read_part(
         let found = match next_token(bytes, cursor) {
             Ok(found) => found,
             Err(fault) => {
-                return Ok(Part::Fault(
-                    ReadKind::Lex(fault.kind),
-                    fault.line,
-                    fault.column,
-                ));
+                return Ok(Part::Fault(ReadKind::Lex(fault.kind), fault.line, fault.column));
             }
         };
         let Some(token) = found else {
@@ -127,7 +123,14 @@ pub fn read_part(
             plain: token.plain,
         };
         let mode = pending.place.mode;
-        let fault = pending.take(alloc, is_full, selections, &lexeme, token.line, token.column)?;
+        let fault = pending.take(
+            alloc,
+            is_full,
+            selections,
+            &lexeme,
+            token.line,
+            token.column,
+        )?;
         if let Some(kind) = fault {
             return Ok(Part::Fault(kind, token.line, token.column));
         }

@@ -134,12 +134,7 @@ impl<'a> Pending<'a> {
     }
 
     // Whether the token breaks a conclude item.
-    fn breaks_item(
-        &self,
-        mode: Mode,
-        is_outside: bool,
-        token: &Lexeme,
-    ) -> Result<bool, NoMemory>
+    fn breaks_item(&self, mode: Mode, is_outside: bool, token: &Lexeme) -> Result<bool, NoMemory>
         requires { is_outside ≡ statements.is_outside_items self.now.place (seen token.now) }
         ensures { IfOk result (λ breaks. breaks ≡ statements.breaks_item mode self.now (seen token.now)) }
     {
@@ -226,12 +221,7 @@ impl<'a> Pending<'a> {
     }
 
     // A token of the info.
-    fn take_info(
-        &mut self,
-        alloc: Global,
-        is_outside: bool,
-        token: &Lexeme,
-    ) -> Result<(), NoMemory>
+    fn take_info(&mut self, alloc: Global, is_outside: bool, token: &Lexeme) -> Result<(), NoMemory>
         ensures { IfOk result (λ _. self.new ≡ statements.take_info is_outside self.old (seen token.now)) }
     {
         if is_outside {

@@ -78,8 +78,8 @@ fn read_files<F: Files>(
     ensures read { MatchResult result
         (λ kept. ReadsKept (F.table files.old) name.now (option_map (λ r. r.now) root.entry) kept)
         (λ fault. IsFault (F.table files.old) name.now (option_map (λ r. r.now) root.entry)
-            (record { faults = F.faults files.old; absences = F.absences files.old; overruns = F.overruns files.old })
-            (record { faults = F.faults files.new; absences = F.absences files.new; overruns = F.overruns files.new }) fault) }
+        (record { faults = F.faults files.old; absences = F.absences files.old; overruns = F.overruns files.old })
+        (record { faults = F.faults files.new; absences = F.absences files.new; overruns = F.overruns files.new }) fault) }
 {
     let mut kept = make_kept(alloc)?;
     let mut file = match begin(alloc, files, &mut kept, name) {
@@ -145,8 +145,8 @@ pub fn read_problem<F: Files>(
     ensures read { MatchResult result
         (λ input. Reads (F.table files.old) name.now (option_map (λ r. r.now) root.entry) input)
         (λ fault. IsFault (F.table files.old) name.now (option_map (λ r. r.now) root.entry)
-            (record { faults = F.faults files.old; absences = F.absences files.old; overruns = F.overruns files.old })
-            (record { faults = F.faults files.new; absences = F.absences files.new; overruns = F.overruns files.new }) fault) }
+        (record { faults = F.faults files.old; absences = F.absences files.old; overruns = F.overruns files.old })
+        (record { faults = F.faults files.new; absences = F.absences files.new; overruns = F.overruns files.new }) fault) }
 {
     match read_files(alloc, files, name, root) {
         Ok(kept) => Ok(make_input(kept)?),
