@@ -15,6 +15,7 @@ use Rattle.mg_word.specs.declared.symbol.Kind.{Kind}
 use Rattle.mg_word.specs.declared.item.Item.{Item}
 use Rattle.mg_word.specs.declared.item.Item.TheVariants.{Sym, Var}
 use Rattle.mg_word.specs.declared.clause.Clause.{Clause}
+use Rattle.cnf_reader.specs.Bounds.{IsSmallSymbol}
 use Rattle.cnf_reader.specs.Checks.{Leaves}
 
 module _ {X : Type 0} where
@@ -83,3 +84,12 @@ clause_checked table files clause true is fitting occurring place literals varia
   variables = variables;
 }
 clause_checked table files clause false is fitting occurring place literals variables = tt
+
+-- a symbol with few enough arguments
+pub symbol_bounded : (symbols : List Symbol) (id arity : ℕ) → id < length symbols → IfSome (slice_get symbols id) (λ symbol. arity ≡ symbol.arity) → arity ≤ 16777216 → (All IsSmallSymbol (drop id symbols) → All IsSmallSymbol symbols) → All IsSmallSymbol (drop (id + 1) symbols)
+    → All IsSmallSymbol symbols
+symbol_bounded symbols id arity within arities small so_far behind =
+    let at = element symbols id within in
+    let found = at.1 in
+    let same : arity ≡ at.0.arity = rw found at arities in
+    one_more IsSmallSymbol symbols id at.0 within (sym (get_or_from_slice_get symbols id at.0 at.0 found)) (subst (λ n. n ≤ 16777216) same small) so_far behind

@@ -9,3 +9,4 @@ pub mod Openings
 pub mod Frames
 pub mod Entering
 pub mod Checks
+pub mod Bounds

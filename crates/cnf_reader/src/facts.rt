@@ -7,9 +7,11 @@ ghost use Rattle.mg_word.specs.Facts as facts;
 ghost use Rattle.mg_word.specs.Forms.{is_among, pattern_variables};
 ghost use Rattle.mg_word.specs.Words.{pattern_fits, numbered};
 ghost use Rattle.std.specs.Option.{option_map_or};
+ghost use Rattle.cnf_reader.specs.Bounds.{IsBounded};
 ghost use Rattle.cnf_reader.specs.Checks.{Leaves};
 ghost use Rattle.cnf_reader.specs.Keeping.{input_of};
 
+use crate::bounds::{are_small_clauses, are_small_symbols};
 use crate::kept::Kept;
 use mg_word::{Clause, ClauseLit, Input, Item, Items, Kind, NoMemory, Symbols};
 
@@ -260,7 +262,8 @@ fn are_clauses(symbols: &Symbols, files: usize, clauses: &[Clause]) -> bool
 
 /// The input of what is kept.
 pub fn make_input(kept: Kept) -> Result<Input, NoMemory>
-    ensures { IfOk result (λ input. input ≡ input_of kept) }
+    ensures input { IfOk result (λ input. input ≡ input_of kept) }
+    ensures bounded { IfOk result IsBounded }
 {
     let Kept {
         symbols,
@@ -269,7 +272,13 @@ pub fn make_input(kept: Kept) -> Result<Input, NoMemory>
         includes: _,
         bytes: _,
     } = kept;
-    if clauses.as_slice().len() > MOST_PARTS || !are_symbols(&symbols) {
+    if clauses.as_slice().len() > 20_000 || symbols.len() > 16_777_216 {
+        return Err(NoMemory);
+    }
+    if !are_small_clauses(clauses.as_slice()) || !are_small_symbols(&symbols) {
+        return Err(NoMemory);
+    }
+    if !are_symbols(&symbols) {
         return Err(NoMemory);
     }
     if !are_clauses(&symbols, files.as_slice().len(), clauses.as_slice()) {

@@ -1,6 +1,7 @@
 //! The reader of problems: from the bytes of files to clauses, or to the first fault.
 #![tactic(auto)]
 
+mod bounds;
 mod draft;
 mod end;
 mod enter;

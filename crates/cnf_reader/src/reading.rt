@@ -3,6 +3,7 @@
 ghost use Rattle.std.specs.Prelude.{◌≡◌, ◌≤◌, ◌∷◌, OnOk, IfOk, MatchResult};
 ghost use Rattle.std.specs.Option.{option_map};
 ghost use Rattle.cnf_reader.specs.Reading.{Reads, IsFault, nothing_kept};
+ghost use Rattle.cnf_reader.specs.Bounds.{IsBounded};
 ghost use Rattle.cnf_reader.specs.Entering.{is_of_text, IsTextFault};
 ghost use Rattle.cnf_reader.specs.Frames.{ReadsKept};
 
@@ -142,6 +143,7 @@ pub fn read_problem<F: Files>(
     ensures faults { F.faults files.old ≤ F.faults files.new }
     ensures absences { F.absences files.old ≤ F.absences files.new }
     ensures overruns { F.overruns files.old ≤ F.overruns files.new }
+    ensures bounded { IfOk result IsBounded }
     ensures read { MatchResult result
         (λ input. Reads (F.table files.old) name.now (option_map (λ r. r.now) root.entry) input)
         (λ fault. IsFault (F.table files.old) name.now (option_map (λ r. r.now) root.entry)
