@@ -1,5 +1,11 @@
-pub mod Fronts
-pub mod Parsing
+pub mod Drafting
+pub mod Numbering
+pub mod Taking
+pub mod Ends
+pub mod Going
 pub mod Reaching
-pub mod Telling
-pub mod Tokens
+pub mod Tries
+pub mod Entered
+pub mod Answering
+pub mod Checking
+pub mod OneReading

@@ -1,83 +1,149 @@
--- What a reader that has come so far knows: what it took are the tokens of the text so far, and a place that the grammar reaches.
-use Rattle.std.proofs.Common.{◌≡◌, ◌≤◌, ◌<◌, ℕ, Bool, true, false, List, [], ◌∷◌, ◌++◌, length, drop, slice_index_or, Option, Some, None, refl, sym, ap, ◌∙◌, subst, append-nil, append_assoc, arith, MatchOption}
-use Rattle.cnf_reader.specs.Tokens.{is_gap_byte, text_of, Spells}
-use Rattle.cnf_reader.specs.Scanning.{token_at}
-use Rattle.cnf_reader.specs.Grammar.{file_tokens, are_statements, IsFile}
-use Rattle.cnf_reader.specs.Steps.{step, statements_at_end, statements_of_place}
-use Rattle.cnf_reader.proofs.Fronts.{IsFront, front_begins, gap_step, stop_step, end_step, pass_token}
-use Rattle.cnf_reader.proofs.Parsing.{IsReached, taken_by, under_way, start, start_reached, step_reached, step_stops, end_is}
-use Rattle.cnf_reader.specs.declared.token.Token.{Token}
-use Rattle.cnf_reader.specs.declared.statement.Statement.{Statement}
-use Rattle.cnf_reader.specs.declared.parser.Place.{Place}
-use Rattle.cnf_reader.specs.declared.parser.Place.TheVariants.{Start, Cnf, Opened, Named, BeforeRole, AfterRole, BeforeLiteral, Negated, AfterLiteral, Closed}
-use Rattle.cnf_reader.specs.declared.parser.Parser.{Parser}
+-- How the reading of a problem goes on from one statement to the next.
+use Rattle.std.proofs.Common.{◌≡◌, ◌≢◌, ℕ, zero, suc, ◌+◌, ◌-◌, ◌*◌, ◌<◌, ◌≤◌, Bool, true, false, true≢false, cond, List, [], ◌∷◌, length, drop, Option, Some, None, Result, Ok, Err, refl, sym, ap, ◌∙◌, arith, subst, if◌then◌else◌, nat_eq, nat_le}
+use Rattle.std.proofs.lemmas.Bool.Decides.{nat_tests}
+use Rattle.mg_word.specs.declared.clause.Name.{Name}
+use Rattle.mg_outside.specs.Reading.{Table}
+use Rattle.cnf_reader.specs.declared.fault.ReadFault.{ReadFault}
+use Rattle.cnf_reader.specs.declared.fault.ReadKind.{ReadKind}
+use Rattle.cnf_reader.specs.declared.kept.Kept.{Kept}
+use Rattle.cnf_reader.specs.declared.pending.Asked.{Asked}
+use Rattle.cnf_reader.specs.declared.files.Step.TheVariants.{Ended, Clause, Include, Fault}
+use Rattle.cnf_reader.specs.Reading.{Source, World, read_tokens, and_then, fault_at, include_in, reading_of, NeverFails, AreTold}
+use Rattle.cnf_reader.specs.Parts.{Lower, Stays}
+use Rattle.cnf_reader.specs.Openings.{Finding, FindsTwo, IsTold}
+use Rattle.cnf_reader.specs.Frames.{FileData, IsSame, rest_of, source_in, Advances, levels_in, resume, SameBelow, Reached, next_read, Enters, Refuses}
 
-pub record IsUnderWay (parser : Parser) (rest bytes : List ℕ) : Type 0 where
-  pub reached : IsReached parser
-  pub front : IsFront (taken_by parser) rest bytes
+pub same_itself : (number : ℕ) (world : World) → SameBelow number world world
+same_itself number world = λ k below. (refl, refl)
 
-pub begins : (bytes : List ℕ) → IsUnderWay start bytes bytes
-begins bytes = record { reached = start_reached; front = front_begins bytes }
+-- the order of what follows does not matter
+pub chain : {A B C : Type 0} (r : Result A ReadFault) (f : A → Result B ReadFault) (g : B → Result C ReadFault) → and_then (and_then r f) g ≡ and_then r (λ a. and_then (f a) g)
+chain (Ok a) f g = refl
+chain (Err fault) f g = refl
 
-pub gap_passed : (parser : Parser) (rest bytes : List ℕ) → 1 ≤ length rest → is_gap_byte (slice_index_or rest 0 0) ≡ true → IsUnderWay parser rest bytes → IsUnderWay parser (drop 1 rest) bytes
-gap_passed parser rest bytes some gap here = record { reached = here.reached; front = gap_step (taken_by parser) rest bytes some gap here.front }
+source_same : (selections : List (Option (List Name))) (f g : FileData) → IsSame f g → source_in selections f ≡ source_in selections g
+source_same selections f g same =
+    let names = sym same.0 in
+    let numbers = sym same.1 in
+    let bytes = sym same.2 in
+    λ i. record { name = names i; number = numbers i; bytes = bytes i; selections = selections }
 
-pub token_taken : (parser : Parser) (token : Token) (next : Parser) (rest bytes : List ℕ) → token_at rest ≡ Some token → step parser token ≡ Some next → IsUnderWay parser rest bytes → IsUnderWay next (drop (length (text_of token)) rest) bytes
-token_taken parser token next rest bytes at is here =
-    let goes = step_reached parser token next here.reached is in
-    record {
-      reached = goes.0;
-      front = subst (λ tokens. IsFront tokens (drop (length (text_of token)) rest) bytes) (sym goes.1) (pass_token (taken_by parser) token rest bytes at here.front);
+-- the world with what these two reads find
+pub with_reads : {told : Option Table} → World → ℕ → Finding told → Finding told → World
+with_reads world number first second = record {
+  files = λ k. cond (nat_eq k number) first.files (cond (nat_eq k (suc number)) second.files (world.files k));
+  fails = λ k. cond (nat_eq k number) first.fails (cond (nat_eq k (suc number)) second.fails (world.fails k));
+}
+
+told_if : (told files : Table) (b : Bool) (other : Table) → files ≡ told → other ≡ told → cond b files other ≡ told
+told_if told files true other first second = first
+told_if told files false other first second = second
+
+false_if : (b first second : Bool) → first ≡ false → second ≡ false → cond b first second ≡ false
+false_if true first second one two = one
+false_if false first second one two = two
+
+pub with_told : (told : Option Table) (world : World) (number : ℕ) (first second : Finding told) → AreTold told world → AreTold told (with_reads world number first second)
+unfolding with_reads
+with_told None world number first second files = tt
+with_told (Some told) world number first second files = λ k. told_if told first.files (nat_eq k number) _ first.is_told (told_if told second.files (nat_eq k (suc number)) _ second.is_told (files k))
+
+pub with_whole : (told : Option Table) (world : World) (number : ℕ) (first second : Finding told) → NeverFails world → first.fails ≡ false → second.fails ≡ false → NeverFails (with_reads world number first second)
+unfolding with_reads
+with_whole told world number first second whole one two = λ k. false_if (nat_eq k number) first.fails _ one (false_if (nat_eq k (suc number)) second.fails _ two (whole k))
+
+apart : (k number : ℕ) → k < number → nat_eq k number ≡ false
+apart k number less = grind (arith, nat_tests)
+
+apart_more : (k number : ℕ) → k < number → nat_eq k (suc number) ≡ false
+apart_more k number less = grind (arith, nat_tests)
+
+itself : (k : ℕ) → nat_eq k k ≡ true
+itself k = grind (arith, nat_tests)
+
+one_more : (k : ℕ) → nat_eq (suc k) k ≡ false
+one_more k = grind (arith, nat_tests)
+
+-- worlds that are the same up to these reads are the same before them
+pub before_reads : (told : Option Table) (world other : World) (number : ℕ) (first second : Finding told) → SameBelow (number + 2) (with_reads world number first second) other → SameBelow number world other
+unfolding with_reads
+before_reads told world other number first second same = λ k below.
+    let at = same k (omega arith) in
+    let here = apart k number below in
+    let there = apart_more k number below in
+    (rw (here, there) at at.0, rw (here, there) at at.1)
+
+-- and find these
+pub at_reads : (told : Option Table) (world other : World) (number : ℕ) (first second : Finding told) → SameBelow (number + 2) (with_reads world number first second) other → FindsTwo other number first second
+unfolding with_reads
+at_reads told world other number first second same =
+    let at = same number (omega arith) in
+    let next = same (suc number) (omega arith) in
+    (rw (itself number) at at.0, rw (itself number) at at.1, rw (one_more number, itself (suc number)) at next.0, rw (one_more number, itself (suc number)) at next.1)
+
+module _ (told : Option Table) (root : Option (List ℕ)) (name : List ℕ) (selections : List (Option (List Name))) (kept after : Kept) (file next : FileData) (outer : List FileData) (reached : Reached told root name selections kept (file ∷ outer)) where
+  -- a clause was read
+  pub clause_read : Advances selections kept file Clause after next → Stays kept after → Reached told root name selections after (next ∷ outer)
+  clause_read (same, goes) stays = record {
+    world = reached.world;
+    files = reached.files;
+    whole = reached.whole;
+    reading = λ other below.
+        reached.reading other (subst (λ n. SameBelow (2 * (n + 1)) reached.world other) stays.0 below)
+        ∙ ap (λ r. and_then r (λ later. resume other root (drop 1 selections) later outer)) (goes (λ asked early. include_in other root (levels_in outer) (source_in selections file) asked early))
+        ∙ ap (λ s. and_then (rest_of (λ asked early. include_in other root (levels_in outer) s asked early) selections after next) (λ later. resume other root (drop 1 selections) later outer)) (source_same selections file next same);
+  }
+
+  -- the file was read to its end
+  pub file_ended : Advances selections kept file Ended after next → Stays kept after → Reached told root name (drop 1 selections) after outer
+  file_ended goes stays = record {
+    world = reached.world;
+    files = reached.files;
+    whole = reached.whole;
+    reading = λ other below.
+        reached.reading other (subst (λ n. SameBelow (2 * (n + 1)) reached.world other) stays.0 below)
+        ∙ ap (λ r. and_then r (λ later. resume other root (drop 1 selections) later outer)) (goes (λ asked early. include_in other root (levels_in outer) (source_in selections file) asked early));
+  }
+
+  -- a fault stands in the file
+  pub fault_met : (kind : ReadKind) (line column : ℕ) → Advances selections kept file (Fault kind line column) after next → reading_of reached.world root name ≡ fault_at kind next.name line column
+  fault_met kind line column goes =
+      reached.reading reached.world (same_itself (next_read kept) reached.world)
+      ∙ ap (λ r. and_then r (λ later. resume reached.world root (drop 1 selections) later outer)) (goes.1 (λ asked early. include_in reached.world root (levels_in outer) (source_in selections file) asked early)) ∙ ap (λ n. fault_at kind n line column) (sym goes.0.0)
+
+  module _ (asked : Asked) (goes : Advances selections kept file (Include asked) after next) (stays : Stays kept after) where
+    -- how the reading goes on at an include
+    at_include : (other : World) → SameBelow (next_read after) reached.world other
+        → reading_of other root name
+        ≡ and_then (include_in other root (levels_in outer) (source_in selections next) asked after) (λ behind. resume other root selections behind (next ∷ outer))
+    at_include other below =
+        reached.reading other (subst (λ n. SameBelow (2 * (n + 1)) reached.world other) stays.0 below)
+        ∙ ap (λ r. and_then r (λ later. resume other root (drop 1 selections) later outer)) (goes.1 (λ early before. include_in other root (levels_in outer) (source_in selections file) early before))
+        ∙ chain (include_in other root (levels_in outer) (source_in selections file) asked after) _ _
+        ∙ ap (λ s. and_then (include_in other root (levels_in outer) s asked after) (λ behind. and_then (rest_of (λ early before. include_in other root (levels_in outer) s early before) selections behind next) (λ later. resume other root (drop 1 selections) later outer)))
+        (source_same selections file next goes.0)
+
+    -- its file was opened
+    pub include_entered : (now : Kept) (inner : FileData) → Enters told root after next (length outer) asked now inner → Reached told root name (asked.names ∷ selections) now (inner ∷ next ∷ outer)
+    include_entered now inner enters = record {
+      world = with_reads reached.world (next_read after) enters.first enters.second;
+      files = with_told told reached.world (next_read after) enters.first enters.second reached.files;
+      whole = with_whole told reached.world (next_read after) enters.first enters.second reached.whole enters.whole.0 enters.whole.1;
+      reading = λ other below.
+          let wide : SameBelow (next_read after + 2) (with_reads reached.world (next_read after) enters.first enters.second) other =
+          λ k less. below k (omega (arith, enters.includes)) in
+          at_include other (before_reads told reached.world other (next_read after) enters.first enters.second wide)
+          ∙ ap (λ r. and_then r (λ behind. resume other root selections behind (next ∷ outer))) (enters.gives other (at_reads told reached.world other (next_read after) enters.first enters.second wide) selections);
     }
 
-pub no_token : (parser : Parser) (rest bytes : List ℕ) → 1 ≤ length rest → is_gap_byte (slice_index_or rest 0 0) ≡ false → token_at rest ≡ None → IsUnderWay parser rest bytes → (statements : List Statement) → IsFile bytes statements → ⊥
-no_token parser rest bytes some other at here statements file = stop_step (taken_by parser) rest bytes some other at here.front (file_tokens statements) file.spelled
-
--- where the parser takes no token, the text is no file
-pub not_taken : (parser : Parser) (token : Token) (rest bytes : List ℕ) → token_at rest ≡ Some token → step parser token ≡ None → IsUnderWay parser rest bytes → (statements : List Statement) → IsFile bytes statements → ⊥
-not_taken parser token rest bytes at none here statements file =
-    let further = (pass_token (taken_by parser) token rest bytes at here.front).only (file_tokens statements) file.spelled in
-    step_stops parser token here.reached none statements further.0 file.some (further.1 ∙ append_assoc (taken_by parser) (token ∷ []) further.0)
-
--- what the end of the text says
-pub record Ends (bytes : List ℕ) (statements : List Statement) : Type 0 where
-  pub file : IsFile bytes statements
-  pub only : (others : List Statement) → IsFile bytes others → others ≡ statements
-
-pub end_found : (parser : Parser) (bytes : List ℕ) → IsUnderWay parser [] bytes → (others : List Statement) → IsFile bytes others → parser ≡ record { place = Start; statements = others }
-end_found parser bytes here others file =
-    let end = end_step (taken_by parser) [] bytes (omega arith) here.front in
-    end_is parser here.reached others file.some (sym (end.1 (file_tokens others) file.spelled))
-
-pub file_ends : (place : Place) (statements found : List Statement) (bytes : List ℕ) → IsUnderWay (record { place = place; statements = statements }) [] bytes → statements_of_place place statements ≡ Some found
-    → IsFile bytes found × ((others : List Statement) → IsFile bytes others → others ≡ found)
-file_ends Start statements found bytes here is =
-    let end = end_step (taken_by (record { place = Start; statements = statements })) [] bytes (omega arith) here.front in
-    let same : statements ≡ found = cc in
-    subst (λ list. IsFile bytes list × ((others : List Statement) → IsFile bytes others → others ≡ list)) same
-    (
-      record { some = here.reached.statements; spelled = subst (λ tokens. Spells tokens bytes) (append-nil (file_tokens statements)) end.0 },
-      λ others file. sym (ap (λ p. p.statements) (end_found (record { place = Start; statements = statements }) bytes here others file)),
-    )
-file_ends place statements found bytes here is = cc
-
-pub file_missing : (place : Place) (statements : List Statement) (bytes : List ℕ) → IsUnderWay (record { place = place; statements = statements }) [] bytes → statements_of_place place statements ≡ None → (others : List Statement) → IsFile bytes others → ⊥
-file_missing place statements bytes here none others file =
-    let is = end_found (record { place = place; statements = statements }) bytes here others file in
-    let at : place ≡ Start = ap (λ p. p.place) is in
-    none_some others (sym none ∙ ap (λ p. statements_of_place p statements) at ∙ ap Some (ap (λ p. p.statements) is))
-  where
-    none_some : {X : Type 0} (x : X) → None ≡ Some x → ⊥
-    none_some x same = cc
-
-no_bytes : (rest : List ℕ) → length rest < 1 → rest ≡ []
-no_bytes [] none = refl
-no_bytes (byte ∷ rest) none = absurd (omega arith)
-
--- what the reader answers at the end
-pub end_answers : (parser : Parser) (rest bytes : List ℕ) (found : Option (List Statement)) → length rest < 1 → found ≡ statements_at_end parser → IsUnderWay parser rest bytes
-    → MatchOption found ((statements : List Statement) → IsFile bytes statements → ⊥) (λ statements. IsFile bytes statements × ((others : List Statement) → IsFile bytes others → others ≡ statements))
-end_answers parser rest bytes None none is here =
-    file_missing parser.place parser.statements bytes (subst (λ left. IsUnderWay parser left bytes) (no_bytes rest none) here) (sym is)
-end_answers parser rest bytes (Some found) none is here =
-    file_ends parser.place parser.statements found bytes (subst (λ left. IsUnderWay parser left bytes) (no_bytes rest none) here) (sym is)
+    -- a fault stands at it
+    pub include_refused : (fault : ReadFault) (refuses : Refuses told root after next (length outer) asked fault)
+        → (world : World) × AreTold told world × (refuses.first.fails ≡ false → refuses.second.fails ≡ false → NeverFails world) × (reading_of world root name ≡ Err fault)
+    include_refused fault refuses =
+        let world = with_reads reached.world (next_read after) refuses.first refuses.second in (
+          world,
+          with_told told reached.world (next_read after) refuses.first refuses.second reached.files,
+          with_whole told reached.world (next_read after) refuses.first refuses.second reached.whole,
+          at_include world (before_reads told reached.world world (next_read after) refuses.first refuses.second (same_itself (next_read after + 2) world))
+              ∙ ap (λ r. and_then r (λ behind. resume world root selections behind (next ∷ outer))) (refuses.gives world (at_reads told reached.world world (next_read after) refuses.first refuses.second (same_itself (next_read after + 2) world)) selections),
+        )

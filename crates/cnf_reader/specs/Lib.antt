@@ -1,6 +1,12 @@
-pub mod Grammar
-pub mod Inputs
+pub mod Drafts
+pub mod Faults
+pub mod Statements
+pub mod Keeping
+pub mod Names
 pub mod Reading
-pub mod Scanning
-pub mod Steps
-pub mod Tokens
+pub mod Parts
+pub mod Openings
+pub mod Frames
+pub mod Entering
+pub mod Checks
+pub mod Bounds

@@ -1,15 +1,195 @@
--- What a text of a problem reads as, and the faults of reading.
-use Rattle.std.specs.Prelude.{◌≡◌, ℕ, ◌≤◌, List, [], length, Option, Some, None}
+-- The reading of a problem from its files: the input that they stand for, or the first fault.
+use Rattle.std.specs.Prelude.{◌≡◌, ◌⊎◌, ℕ, zero, suc, ◌+◌, ◌-◌, ◌*◌, ◌<◌, Bool, true, false, cond, nat_le, List, [], ◌∷◌, ◌++◌, length, slice_range, Option, Some, None, Result, Ok, Err, if◌then◌else◌}
 use Rattle.mg_word.specs.Facts.{InputData}
+use Rattle.mg_word.specs.declared.clause.Name.{Name}
 use Rattle.mg_outside.specs.Causes.{Rose}
-use Rattle.mg_outside.specs.Reading.{Table, IsAbsent, IsTooLong}
-use Rattle.cnf_reader.specs.Grammar.{IsFile}
-use Rattle.cnf_reader.specs.Inputs.{input_of}
-use Rattle.cnf_reader.specs.declared.statement.Statement.{Statement}
+use Rattle.mg_outside.specs.Reading.{Table}
+use Rattle.tptp_lexer.specs.Tokens.{tokens_of}
+use Rattle.tptp_lexer.specs.Spots.{spot_at}
+use Rattle.tptp_lexer.specs.declared.token.Token.{Token}
+use Rattle.tptp_lexer.specs.declared.token.LexFault.{LexFault}
+use Rattle.cnf_grammar.specs.declared.mode.Mode.{Mode}
+use Rattle.cnf_grammar.specs.declared.mode.Mode.TheVariants.{ClauseClosed, IncludeClosed}
+use Rattle.cnf_grammar.specs.Shapes.{Shape, shape_of}
+use Rattle.cnf_grammar.specs.Table.{start, is_end}
 use Rattle.cnf_reader.specs.declared.fault.ReadKind.{ReadKind}
-use Rattle.cnf_reader.specs.declared.fault.ReadKind.TheVariants.{NotBuilt, TooLong, ProblemAbsent, Files}
+use Rattle.cnf_reader.specs.declared.fault.ReadKind.TheVariants.{Lex, Expected, IncludeAbsent, IncludeDepth, TooManyIncludes, TooLong, ProblemAbsent, Files}
 use Rattle.cnf_reader.specs.declared.fault.ReadFault.{ReadFault}
 use Rattle.cnf_reader.specs.declared.fault.ReadFault.TheVariants.{At, NoMemory}
+use Rattle.cnf_reader.specs.declared.pending.Asked.{Asked}
+use Rattle.cnf_reader.specs.declared.pending.Pending.{Pending}
+use Rattle.cnf_reader.specs.declared.kept.Kept.{Kept}
+use Rattle.cnf_reader.specs.Statements.{fresh, take}
+use Rattle.cnf_reader.specs.Keeping.{keep, is_full, input_of}
+use Rattle.cnf_reader.specs.Names.{tries}
+
+-- the most bytes of all files of a problem together
+abbrev pub most_bytes : ℕ
+most_bytes = 16777216
+
+-- the most include statements
+abbrev pub most_includes : ℕ
+most_includes = 256
+
+-- how many levels of files may stand below the problem file
+abbrev pub most_levels : ℕ
+most_levels = 15
+
+-- a file that was read: its name, its number, its bytes, and the selections under which it is read
+pub record Source : Type 0 where
+  pub name : List ℕ
+  pub number : ℕ
+  pub bytes : List ℕ
+  pub selections : List (Option (List Name))
+
+-- what the reads find: the files as the read of each number finds them, and which reads fail. The read of the problem file has number 0, those of
+-- the include of number k, from 1, have the numbers 2 * k and 2 * k + 1
+pub record World : Type 0 where
+  pub files : ℕ → Table
+  pub fails : ℕ → Bool
+
+-- what comes of tries to read a file
+pub data Opening : Type 0 where
+  opened : (name bytes : List ℕ) → Opening
+  none_found : Opening
+  too_long : Opening
+  read_failed : Opening
+
+-- what comes of one read, where these bytes are the file, if there is one; `next`: what comes of the further tries
+abbrev pub by_read : Bool → Option (List ℕ) → ℕ → List ℕ → Opening → Opening
+by_read true found limit name next = read_failed
+by_read false None limit name next = next
+by_read false (Some bytes) limit name next = if nat_le (length bytes) limit then opened name bytes else too_long
+
+-- what comes of tries of these names, where the first has this number: a further name is tried after an absence alone
+abbrev pub open_first : World → ℕ → ℕ → List (List ℕ) → Opening
+open_first world number limit [] = none_found
+open_first world number limit (name ∷ names) = by_read (world.fails number) (world.files number name) limit name (open_first world (suc number) limit names)
+
+-- the shape of a token of these bytes
+abbrev pub shape_in : List ℕ → Token → Shape
+shape_in bytes token = shape_of token.kind (slice_range bytes token.start token.end) token.plain
+
+-- what follows, unless a fault was met
+abbrev pub and_then : {A B : Type 0} → Result A ReadFault → (A → Result B ReadFault) → Result B ReadFault
+and_then (Err fault) next = Err fault
+and_then (Ok a) next = next a
+
+-- a fault with nothing for its subject
+abbrev pub fault_at : {A : Type 0} → ReadKind → List ℕ → ℕ → ℕ → Result A ReadFault
+fault_at kind file line column = Err (At kind file line column [])
+
+-- behind a token that was read with this mode: a dot ends a clause, which is kept, or an include, which is followed. `lower` reads the file of an
+-- include, and `rest` the rest of this one
+abbrev pub behind : (Asked → Kept → Result Kept ReadFault) → Source → Kept → Mode → Pending → (Pending → Kept → Result Kept ReadFault) → Result Kept ReadFault
+behind lower source kept ClauseClosed p rest = rest (fresh p.place) (keep source.selections kept source.number p)
+behind lower source kept IncludeClosed p rest = and_then (lower p.asked kept) (λ after. rest (fresh p.place) after)
+behind lower source kept mode p rest = rest p kept
+
+-- goes on behind a token of this place, if no fault stands there
+abbrev pub go_on : (Asked → Kept → Result Kept ReadFault) → Source → Kept → Mode → Token → Result Pending ReadKind → (Pending → Kept → Result Kept ReadFault) → Result Kept ReadFault
+go_on lower source kept mode token (Err kind) rest = fault_at kind source.name token.line token.column
+go_on lower source kept mode token (Ok p) rest = behind lower source kept mode p rest
+
+-- at the end of the tokens: a lexical fault, or the end of the file, where no statement is under way
+abbrev pub at_end : Source → Pending → Kept → Option LexFault → Result Kept ReadFault
+at_end source p kept (Some fault) = fault_at (Lex fault.kind) source.name fault.line fault.column
+at_end source p kept None =
+    if is_end p.place then Ok kept else fault_at Expected source.name (spot_at source.bytes (length source.bytes)).line (spot_at source.bytes (length source.bytes)).column
+
+-- what is kept once these tokens of a file are read, or the first fault
+unfoldable pub read_tokens : (Asked → Kept → Result Kept ReadFault) → Source → Pending → Kept → List Token → Option LexFault → Result Kept ReadFault
+read_tokens lower source p kept [] fault = at_end source p kept fault
+read_tokens lower source p kept (token ∷ tokens) fault =
+    go_on lower source kept p.place.mode token (take (is_full kept) source.selections p (shape_in source.bytes token) token.line token.column)
+    (λ next after. read_tokens lower source next after tokens fault)
+
+-- the same of a whole file
+abbrev pub read_source : (Asked → Kept → Result Kept ReadFault) → Source → Kept → Result Kept ReadFault
+read_source lower source kept = read_tokens lower source (fresh start) kept (tokens_of source.bytes).tokens (tokens_of source.bytes).fault
+
+-- the file that was opened under a name
+abbrev pub source_of : List ℕ → List ℕ → List (Option (List Name)) → Kept → Source
+source_of name bytes selections kept = record { name = name; number = length kept.files; bytes = bytes; selections = selections }
+
+-- with one more file
+abbrev pub with_file : List ℕ → List ℕ → Kept → Kept
+with_file name bytes kept = record kept { files = kept.files ++ name ∷ []; bytes = kept.bytes + length bytes }
+
+-- with one more include
+abbrev pub with_include : Kept → Kept
+with_include kept = record kept { includes = kept.includes + 1 }
+
+-- follows an include, once a file was opened; `deeper` reads it
+abbrev pub follow : Opening → Source → Asked → Kept → (Source → Kept → Result Kept ReadFault) → Result Kept ReadFault
+follow (opened name bytes) source asked kept deeper = deeper (source_of name bytes (asked.names ∷ source.selections) kept) (with_file name bytes (with_include kept))
+follow none_found source asked kept deeper = Err (At IncludeAbsent source.name asked.line asked.column asked.file)
+follow too_long source asked kept deeper = fault_at TooLong source.name asked.line asked.column
+follow read_failed source asked kept deeper = fault_at Files source.name asked.line asked.column
+
+-- an include, unless there were as many as may be
+abbrev pub if_few : Source → Asked → Kept → Result Kept ReadFault → Result Kept ReadFault
+if_few source asked kept next = if nat_le most_includes kept.includes then fault_at TooManyIncludes source.name asked.line asked.column else next
+
+-- what comes of the tries for an include
+abbrev pub opening_of : World → Option (List ℕ) → Source → Asked → Kept → Opening
+opening_of world root source asked kept = open_first world (2 * (kept.includes + 1)) (most_bytes - kept.bytes) (tries root source.name asked.file)
+
+-- reads the file of an include that stands in another file, with so many levels left below that
+unfoldable pub include_in : World → Option (List ℕ) → ℕ → Source → Asked → Kept → Result Kept ReadFault
+include_in world root zero source asked kept = if_few source asked kept (fault_at IncludeDepth source.name asked.line asked.column)
+include_in world root (suc levels) source asked kept =
+    if_few source asked kept
+    (follow (opening_of world root source asked kept) source asked kept
+    (λ deeper after. read_source (λ further more. include_in world root levels deeper further more) deeper after))
+
+-- nothing is kept yet
+abbrev pub nothing_kept : Kept
+nothing_kept = record { symbols = []; files = []; clauses = []; includes = 0; bytes = 0 }
+
+-- reads the problem file, once it was opened
+abbrev pub read_opened : World → Option (List ℕ) → List ℕ → Opening → Result Kept ReadFault
+read_opened world root problem (opened name bytes) =
+    let source = source_of name bytes (None ∷ []) nothing_kept in
+    read_source (λ asked kept. include_in world root most_levels source asked kept) source (with_file name bytes nothing_kept)
+read_opened world root problem none_found = fault_at ProblemAbsent problem 1 1
+read_opened world root problem too_long = fault_at TooLong problem 1 1
+read_opened world root problem read_failed = fault_at Files problem 1 1
+
+-- what is kept of the problem with this name, or the first fault
+unfoldable pub reading_of : World → Option (List ℕ) → List ℕ → Result Kept ReadFault
+reading_of world root name = read_opened world root name (open_first world 0 most_bytes (name ∷ []))
+
+-- each read finds the told files, where files are told
+abbrev pub AreTold : Option Table → World → Type 0
+AreTold None world = Unit {0}
+AreTold (Some told) world = (number : ℕ) → world.files number ≡ told
+
+-- no read fails
+abbrev pub NeverFails : World → Type 0
+NeverFails world = (number : ℕ) → world.fails number ≡ false
+
+-- the files of that name and root read as that input
+pub record Reads (told : Option Table) (name : List ℕ) (root : Option (List ℕ)) (input : InputData) : Type 0 where
+  pub world : World
+  pub files : AreTold told world
+  pub whole : NeverFails world
+  pub kept : Kept
+  pub reading : reading_of world root name ≡ Ok kept
+  pub is : input ≡ input_of kept
+
+-- the fault is the first that stands in the files of that name and root
+pub record StandsFirst (told : Option Table) (name : List ℕ) (root : Option (List ℕ)) (fault : ReadFault) : Type 0 where
+  pub world : World
+  pub files : AreTold told world
+  pub whole : NeverFails world
+  pub reading : reading_of world root name ≡ Err fault
+
+-- a read fails there, and no fault stands before it
+pub record FailsFirst (told : Option Table) (name : List ℕ) (root : Option (List ℕ)) (fault : ReadFault) : Type 0 where
+  pub world : World
+  pub files : AreTold told world
+  pub reading : reading_of world root name ≡ Err fault
 
 -- the counts of failed reads, of reads that found no file, and of reads that found too long a file
 pub record Counts : Type 0 where
@@ -17,59 +197,24 @@ pub record Counts : Type 0 where
   pub absences : ℕ
   pub overruns : ℕ
 
--- the files are those that are told, where they are told
-abbrev pub AreTold : Option Table → Table → Type 0
-AreTold None files = Unit {0}
-AreTold (Some told) files = told ≡ files
+-- which count has risen with a fault of this kind
+abbrev pub HasRisen : ReadKind → Counts → Counts → Type 0
+HasRisen Files before now = Rose before.faults now.faults
+HasRisen ProblemAbsent before now = Rose before.absences now.absences
+HasRisen IncludeAbsent before now = Rose before.absences now.absences
+HasRisen TooLong before now = Rose before.overruns now.overruns
+HasRisen kind before now = Unit {0}
 
--- the most bytes that a problem may have
-abbrev pub most_bytes : ℕ
-most_bytes = 16777216
+-- where the fault stands in the files, or that a read failed there
+abbrev pub StandsBy : ReadKind → Option Table → List ℕ → Option (List ℕ) → ReadFault → Type 0
+StandsBy Files told name root fault = FailsFirst told name root fault
+StandsBy kind told name root fault = StandsFirst told name root fault
 
--- the file of that name is a file of the grammar, and the input is that of its statements
-pub record ReadsIn (files : Table) (name : List ℕ) (input : InputData) : Type 0 where
-  pub bytes : List ℕ
-  pub there : files name ≡ Some bytes
-  pub within : length bytes ≤ most_bytes
-  pub statements : List Statement
-  pub file : IsFile bytes statements
-  pub is : input ≡ input_of name statements
+-- a fault stands first in the files, and comes with the count that tells its cause
+abbrev pub IsFault : Option Table → List ℕ → Option (List ℕ) → Counts → Counts → ReadFault → Type 0
+IsFault told name root before now (At kind file line column subject) = StandsBy kind told name root (At kind file line column subject) × HasRisen kind before now
+IsFault told name root before now NoMemory = Unit {0}
 
--- the told files read as that input
-abbrev pub Reads : Option Table → List ℕ → InputData → Type 0
-Reads told name input = (files : Table) × AreTold told files × ReadsIn files name input
-
--- the file of that name has few enough bytes, and they are no file of the grammar
-pub record IsNoFile (files : Table) (name : List ℕ) : Type 0 where
-  pub bytes : List ℕ
-  pub there : files name ≡ Some bytes
-  pub within : length bytes ≤ most_bytes
-  pub refused : (statements : List Statement) → IsFile bytes statements → ⊥
-
--- what stands behind each kind of fault
-abbrev pub HasCause : Option Table → List ℕ → Counts → Counts → ReadKind → Type 0
-HasCause told name before now NotBuilt = (files : Table) × AreTold told files × IsNoFile files name
-HasCause told name before now TooLong = IsTooLong told name most_bytes before.overruns now.overruns
-HasCause told name before now ProblemAbsent = IsAbsent told name before.absences now.absences
-HasCause told name before now Files = Rose before.faults now.faults
-
--- each fault has its cause, and stands at the start of the file
-abbrev pub IsFault : Option Table → List ℕ → Counts → Counts → ReadFault → Type 0
-IsFault told name before now (At kind file line column subject) =
-    HasCause told name before now kind × (file ≡ name) × (line ≡ 1) × (column ≡ 1) × (subject ≡ [])
-IsFault told name before now NoMemory = Unit {0}
-
--- the fault of that kind at the start of the file, or want of memory
-abbrev pub FaultIs : ReadKind → List ℕ → ReadFault → Type 0
-FaultIs wanted name (At kind file line column subject) = (kind ≡ wanted) × (file ≡ name) × (line ≡ 1) × (column ≡ 1) × (subject ≡ [])
-FaultIs wanted name NoMemory = Unit {0}
-
--- the bytes are a file of the grammar, and the input is that of its statements
-abbrev pub IsInputOf : List ℕ → List ℕ → InputData → Type 0
-IsInputOf name bytes input = (statements : List Statement) × IsFile bytes statements × (input ≡ input_of name statements)
-
--- the bytes are no file of the grammar
-abbrev pub IsFaultOf : List ℕ → List ℕ → ReadFault → Type 0
-IsFaultOf name bytes (At kind file line column subject) =
-    ((statements : List Statement) → IsFile bytes statements → ⊥) × (kind ≡ NotBuilt) × (file ≡ name) × (line ≡ 1) × (column ≡ 1) × (subject ≡ [])
-IsFaultOf name bytes NoMemory = Unit {0}
+-- told files read as some input, or some fault stands first in them
+abbrev pub IsReadSome : Table → List ℕ → Option (List ℕ) → Type 0
+IsReadSome told name root = ((input : InputData) × Reads (Some told) name root input) ⊎ ((fault : ReadFault) × StandsFirst (Some told) name root fault)

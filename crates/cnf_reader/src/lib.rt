@@ -1,13 +1,26 @@
-//! The reader of problems: from the bytes of a file to clauses, or to a fault.
+//! The reader of problems: from the bytes of files to clauses, or to the first fault.
 #![tactic(auto)]
 
+mod bounds;
+mod draft;
+mod end;
+mod enter;
+mod facts;
 mod fault;
-mod lexer;
-mod parser;
+mod files;
+mod kept;
+mod laws;
+mod names;
+mod numbers;
+mod opening;
+mod part;
+mod pending;
 mod reading;
-mod statement;
-mod statements;
-mod token;
+mod selections;
+#[cfg(test)]
+mod tests;
+mod text;
 
 pub use fault::{ReadFault, ReadKind};
+pub use laws::files_read_as_one_thing;
 pub use reading::read_problem;

@@ -1,46 +1,138 @@
-//! The reading of a problem from its file.
+//! The reading of a problem from its files.
 
-ghost use Rattle.std.specs.Prelude.{◌≡◌, ◌≤◌, IfOk, IfErr, MatchResult, string_bytes};
-ghost use Rattle.mg_outside.specs.Causes.{Rose};
-ghost use Rattle.cnf_reader.specs.Grammar.{IsFile};
-ghost use Rattle.cnf_reader.specs.Inputs.{input_of};
-ghost use Rattle.cnf_reader.specs.Reading.{Reads, IsFault, FaultIs, IsInputOf, IsFaultOf};
+ghost use Rattle.std.specs.Prelude.{◌≡◌, ◌≤◌, ◌∷◌, OnOk, IfOk, MatchResult};
+ghost use Rattle.std.specs.Option.{option_map};
+ghost use Rattle.cnf_reader.specs.Reading.{Reads, IsFault, nothing_kept};
+ghost use Rattle.cnf_reader.specs.Bounds.{IsBounded};
+ghost use Rattle.cnf_reader.specs.Entering.{is_of_text, IsTextFault};
+ghost use Rattle.cnf_reader.specs.Frames.{ReadsKept};
 
+use crate::enter::{begin, enter, fault_at};
+use crate::facts::make_input;
 use crate::fault::{ReadFault, ReadKind};
-use crate::statement::Statement;
-use crate::statements::statements_of;
-use mg_outside::{Files, ReadAnswer};
-use mg_word::{Input, Items, NoMemory, Text};
+use crate::files::{OpenFile, OpenFiles, Step};
+use crate::kept::Kept;
+use crate::pending::Asked;
+use crate::selections::Selections;
+use mg_outside::Files;
+use mg_word::{Input, Items, Name, NoMemory, Symbols};
 use std::alloc::Global;
 
-/// The most bytes that a problem may have.
-const MOST_BYTES: u64 = 16_777_216;
-
-// The fault at the start of the file.
-fn fault_at_start(alloc: Global, kind: ReadKind, name: &str) -> ReadFault
-    ensures { FaultIs kind name.now result }
+// Whether faults of this kind stand at tokens of a file.
+fn is_of_text(kind: ReadKind) -> bool
+    ensures { result ≡ is_of_text kind }
 {
-    match Vec::from_slice(alloc, name.as_bytes()) {
-        Err(_) => ReadFault::NoMemory,
-        Ok(bytes) => ReadFault::At {
-            kind,
-            file: Text::new(bytes),
-            line: 1,
-            column: 1,
-            subject: Text::new(Vec::new(alloc)),
-        },
+    !matches!(
+        kind,
+        ReadKind::IncludeAbsent | ReadKind::TooLong | ReadKind::ProblemAbsent | ReadKind::Files
+    )
+}
+
+// The fault at this place of a file. No fault of a file's opening stands at its tokens.
+fn fault_in(alloc: Global, kind: ReadKind, file: &[u8], line: u32, column: u32) -> ReadFault
+    ensures { IsTextFault kind file.now line column result }
+{
+    if is_of_text(kind) {
+        return fault_at(alloc, kind, file, line, column, &[]);
     }
+    ReadFault::NoMemory
 }
 
-// The input that statements stand for.
-fn make_input(alloc: Global, name: &str, statements: &[Statement]) -> Result<Input, NoMemory>
-    ensures { IfOk result (λ input. input ≡ input_of name.now statements.now) }
+// Nothing is kept yet.
+fn make_kept(alloc: Global) -> Result<Kept, NoMemory>
+    ensures { IfOk result (λ kept. kept ≡ nothing_kept) }
 {
-    Err(NoMemory)
+    Ok(Kept {
+        symbols: Symbols::new(alloc)?,
+        files: Items::empty(alloc),
+        clauses: Items::empty(alloc),
+        includes: 0,
+        bytes: 0,
+    })
 }
 
-/// Reads a problem from its file. A name is tried as it is; files that a problem may include are
-/// not read yet, and so the root is not looked at.
+// Leaves a file open around another, which is read under these names too.
+fn go_in(
+    selections: &mut Selections,
+    outer: &mut OpenFiles,
+    names: Option<Items<Name>>,
+    file: OpenFile,
+) -> Result<(), NoMemory>
+    ensures { OnOk result ((selections.new ≡ names ∷ selections.old) × (outer.new ≡ file ∷ outer.old)) }
+{
+    selections.push(names)?;
+    outer.push(file)?;
+    Ok(())
+}
+
+// Reads all files of a problem, one statement after the other.
+fn read_files<F: Files>(
+    alloc: Global,
+    files: &mut F,
+    name: &str,
+    root: Option<&str>,
+) -> Result<Kept, ReadFault>
+    ensures same { F.table files.new ≡ F.table files.old }
+    ensures faults { F.faults files.old ≤ F.faults files.new }
+    ensures absences { F.absences files.old ≤ F.absences files.new }
+    ensures overruns { F.overruns files.old ≤ F.overruns files.new }
+    ensures read { MatchResult result
+        (λ kept. ReadsKept (F.table files.old) name.now (option_map (λ r. r.now) root.entry) kept)
+        (λ fault. IsFault (F.table files.old) name.now (option_map (λ r. r.now) root.entry)
+        (record { faults = F.faults files.old; absences = F.absences files.old; overruns = F.overruns files.old })
+        (record { faults = F.faults files.new; absences = F.absences files.new; overruns = F.overruns files.new }) fault) }
+{
+    let mut kept = make_kept(alloc)?;
+    let mut file = match begin(alloc, files, &mut kept, name) {
+        Ok(file) => file,
+        Err(fault) => return Err(fault),
+    };
+    let mut outer = OpenFiles::empty(alloc);
+    let mut selections = Selections::empty(alloc);
+    selections.push(None)?;
+    for _ in 0..u64::MAX {
+        let (step, next) = file.read(alloc, &selections, &mut kept)?;
+        match step {
+            Step::Ended => {
+                let Some(around) = outer.pop() else {
+                    return Ok(kept);
+                };
+                selections.close();
+                file = around;
+                continue;
+            }
+            Step::Clause => {
+                file = next;
+                continue;
+            }
+            Step::Include(asked) => {
+                let inner = match enter(alloc, files, root, &mut kept, &next, outer.len(), &asked) {
+                    Ok(inner) => inner,
+                    Err(fault) => return Err(fault),
+                };
+                let Asked {
+                    file: _,
+                    line: _,
+                    column: _,
+                    names,
+                } = asked;
+                let Ok(()) = go_in(&mut selections, &mut outer, names, next) else {
+                    return Err(ReadFault::NoMemory);
+                };
+                file = inner;
+                continue;
+            }
+            Step::Fault(kind, line, column) => {
+                return Err(fault_in(alloc, kind, next.name(), line, column));
+            }
+        }
+    }
+    Err(ReadFault::NoMemory)
+}
+
+/// Reads a problem from its file and the files that it includes. A name that an include has is tried
+/// beside the file that has it, and then, where a root is given, at the root; a name that begins
+/// with a slash is tried as it is. The first fault in reading order is answered, with its place.
 pub fn read_problem<F: Files>(
     alloc: Global,
     files: &mut F,
@@ -51,29 +143,15 @@ pub fn read_problem<F: Files>(
     ensures faults { F.faults files.old ≤ F.faults files.new }
     ensures absences { F.absences files.old ≤ F.absences files.new }
     ensures overruns { F.overruns files.old ≤ F.overruns files.new }
+    ensures bounded { IfOk result IsBounded }
     ensures read { MatchResult result
-        (λ input. Reads (F.table files.old) name.now input)
-        (λ fault. IsFault (F.table files.old) name.now
-            (record { faults = F.faults files.old; absences = F.absences files.old; overruns = F.overruns files.old })
-            (record { faults = F.faults files.new; absences = F.absences files.new; overruns = F.overruns files.new }) fault) }
+        (λ input. Reads (F.table files.old) name.now (option_map (λ r. r.now) root.entry) input)
+        (λ fault. IsFault (F.table files.old) name.now (option_map (λ r. r.now) root.entry)
+        (record { faults = F.faults files.old; absences = F.absences files.old; overruns = F.overruns files.old })
+        (record { faults = F.faults files.new; absences = F.absences files.new; overruns = F.overruns files.new }) fault) }
 {
-    let mut bytes = Vec::new(alloc);
-    match files.read(name, MOST_BYTES, &mut bytes) {
-        ReadAnswer::Done => {}
-        ReadAnswer::Absent => return Err(fault_at_start(alloc, ReadKind::ProblemAbsent, name)),
-        ReadAnswer::TooLong => return Err(fault_at_start(alloc, ReadKind::TooLong, name)),
-        ReadAnswer::Failed => return Err(fault_at_start(alloc, ReadKind::Files, name)),
-        ReadAnswer::NoMemory => return Err(ReadFault::NoMemory),
-    }
-    input_of_bytes(alloc, name, &bytes)
-}
-
-// What the bytes of a problem's file read as.
-fn input_of_bytes(alloc: Global, name: &str, bytes: &[u8]) -> Result<Input, ReadFault>
-    ensures { MatchResult result (λ input. IsInputOf name.now bytes.now input) (λ fault. IsFaultOf name.now bytes.now fault) }
-{
-    match statements_of(alloc, bytes)? {
-        None => Err(fault_at_start(alloc, ReadKind::NotBuilt, name)),
-        Some(statements) => Ok(make_input(alloc, name, statements.as_slice())?),
+    match read_files(alloc, files, name, root) {
+        Ok(kept) => Ok(make_input(kept)?),
+        Err(fault) => Err(fault),
     }
 }

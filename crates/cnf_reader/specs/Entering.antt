@@ -1,0 +1,82 @@
+-- How files are opened and taken in. No public clause cites this module.
+use Rattle.std.specs.Prelude.{◌≡◌, ℕ, zero, suc, ◌+◌, ◌-◌, ◌<◌, ◌≤◌, Bool, true, false, nat_le, List, [], ◌∷◌, ◌++◌, length, Option, Some, None, Result, Ok, Err}
+use Rattle.mg_word.specs.declared.clause.Name.{Name}
+use Rattle.mg_outside.specs.Reading.{Table}
+use Rattle.tptp_lexer.specs.Tokens.{start_cursor}
+use Rattle.cnf_grammar.specs.Table.{start}
+use Rattle.cnf_reader.specs.declared.fault.ReadFault.{ReadFault}
+use Rattle.cnf_reader.specs.declared.fault.ReadFault.TheVariants.{At, NoMemory}
+use Rattle.cnf_reader.specs.declared.fault.ReadKind.{ReadKind}
+use Rattle.cnf_reader.specs.declared.fault.ReadKind.TheVariants.{Files, ProblemAbsent, IncludeAbsent, TooLong}
+use Rattle.cnf_reader.specs.declared.kept.Kept.{Kept}
+use Rattle.cnf_reader.specs.declared.pending.Asked.{Asked}
+use Rattle.cnf_reader.specs.Reading.{World, with_file, with_include, fault_at, Counts, HasRisen, most_bytes, opened, open_first, read_opened, read_source, include_in, source_of, most_levels}
+use Rattle.cnf_reader.specs.Openings.{Finding, FindsTwo}
+use Rattle.cnf_reader.specs.Frames.{FileData, Enters, Refuses, rest_of, source_in}
+
+-- the fault of that kind there, or want of memory
+abbrev pub FaultIs : ReadKind → List ℕ → ℕ → ℕ → List ℕ → ReadFault → Type 0
+FaultIs wanted name at_line at_column what (At kind file line column subject) = At kind file line column subject ≡ At wanted name at_line at_column what
+FaultIs wanted name at_line at_column what NoMemory = Unit {0}
+
+-- a file that was just opened
+abbrev pub new_file : List ℕ → ℕ → List ℕ → FileData
+new_file name number bytes = record { name = name; number = number; bytes = bytes; cursor = start_cursor; place = start }
+
+-- the file is taken in
+abbrev pub IsAdmitted : Kept → List ℕ → List ℕ → Kept → FileData → Type 0
+IsAdmitted kept name bytes now file = (now ≡ with_file name bytes kept) × (file ≡ new_file name (length kept.files) bytes)
+
+-- with a fault of any kind but Files no read failed
+abbrev pub IsWhole : ReadKind → Bool → Bool → Type 0
+IsWhole Files first second = Unit {0}
+IsWhole kind first second = (first ≡ false) × (second ≡ false)
+
+-- a fault stands at an include, with its cause
+pub record RefusesBy (told : Option Table) (root : Option (List ℕ)) (kept : Kept) (file : FileData) (depth : ℕ) (asked : Asked) (before now : Counts) (kind : ReadKind) (fault : ReadFault) : Type 0 where
+  pub refuses : Refuses told root kept file depth asked fault
+  pub risen : HasRisen kind before now
+  pub whole : IsWhole kind refuses.first.fails refuses.second.fails
+
+-- the same, or want of memory
+abbrev pub IsNotEntered : Option Table → Option (List ℕ) → Kept → FileData → ℕ → Asked → Counts → Counts → ReadFault → Type 0
+IsNotEntered told root kept file depth asked before now (At kind name line column subject) = RefusesBy told root kept file depth asked before now kind (At kind name line column subject)
+IsNotEntered told root kept file depth asked before now NoMemory = Unit {0}
+
+-- the problem file was opened
+pub record IsBegun (told : Option Table) (name : List ℕ) (kept now : Kept) (file : FileData) : Type 0 where
+  pub first : Finding told
+  pub second : Finding told
+  pub whole : (first.fails ≡ false) × (second.fails ≡ false)
+  pub found : List ℕ
+  pub bytes : List ℕ
+  pub within : length bytes ≤ most_bytes
+  pub gives : (world : World) → FindsTwo world 0 first second → open_first world 0 most_bytes (name ∷ []) ≡ opened found bytes
+  pub now_is : now ≡ with_file found bytes kept
+  pub file_is : file ≡ new_file found (length kept.files) bytes
+
+-- a fault stands at the problem file, with its cause
+pub record BeginsNotBy (told : Option Table) (name : List ℕ) (before now : Counts) (kind : ReadKind) (fault : ReadFault) : Type 0 where
+  pub first : Finding told
+  pub second : Finding told
+  pub gives : (world : World) → FindsTwo world 0 first second → (root : Option (List ℕ)) → read_opened world root name (open_first world 0 most_bytes (name ∷ [])) ≡ Err fault
+  pub risen : HasRisen kind before now
+  pub whole : IsWhole kind first.fails second.fails
+
+-- the same, or want of memory
+abbrev pub IsNotBegun : Option Table → List ℕ → Counts → Counts → ReadFault → Type 0
+IsNotBegun told name before now (At kind file line column subject) = BeginsNotBy told name before now kind (At kind file line column subject)
+IsNotBegun told name before now NoMemory = Unit {0}
+
+-- whether faults of this kind stand at tokens of a file, and not at its opening
+abbrev pub is_of_text : ReadKind → Bool
+is_of_text Files = false
+is_of_text ProblemAbsent = false
+is_of_text IncludeAbsent = false
+is_of_text TooLong = false
+is_of_text kind = true
+
+-- a fault of this kind that stands at a token, or want of memory
+abbrev pub IsTextFault : ReadKind → List ℕ → ℕ → ℕ → ReadFault → Type 0
+IsTextFault kind name line column (At wanted file at_line at_column subject) = (is_of_text kind ≡ true) × (At wanted file at_line at_column subject ≡ At kind name line column [])
+IsTextFault kind name line column NoMemory = Unit {0}

@@ -1,0 +1,82 @@
+-- What tries to read files find. No public clause cites this module.
+use Rattle.std.specs.Prelude.{◌≡◌, ℕ, suc, ◌<◌, ◌≤◌, Bool, true, false, List, length, Option, None, Some}
+use Rattle.mg_outside.specs.Causes.{Rose}
+use Rattle.mg_outside.specs.Reading.{Table}
+use Rattle.cnf_reader.specs.declared.opening.Tried.{Tried}
+use Rattle.cnf_reader.specs.declared.opening.Tried.TheVariants.{Opened as TriedOpened, Absent as TriedAbsent, TooLong as TriedTooLong, Failed as TriedFailed}
+use Rattle.cnf_reader.specs.declared.opening.Found.{Found}
+use Rattle.cnf_reader.specs.declared.opening.Found.TheVariants.{Opened, Absent, TooLong, Failed}
+use Rattle.cnf_reader.specs.Reading.{World, Opening, opened, none_found, too_long, read_failed, open_first, by_read, Counts}
+
+-- the files are those that are told, where they are told
+abbrev pub IsTold : Option Table → Table → Type 0
+IsTold None files = Unit {0}
+IsTold (Some told) files = files ≡ told
+
+-- what one try finds: the files, and whether the read fails
+pub record Finding (told : Option Table) : Type 0 where
+  pub files : Table
+  pub is_told : IsTold told files
+  pub fails : Bool
+
+-- what comes of a try, and the further tries
+abbrev pub tried_seen : List ℕ → Tried → Opening → Opening
+tried_seen name (TriedOpened bytes) next = opened name bytes.items
+tried_seen name TriedAbsent next = next
+tried_seen name TriedTooLong next = too_long
+tried_seen name TriedFailed next = read_failed
+
+-- the count that rises with what comes of a try, and whether the read failed
+abbrev pub TryCounts : Tried → Bool → Counts → Counts → Type 0
+TryCounts (TriedOpened bytes) fails before now = fails ≡ false
+TryCounts TriedAbsent fails before now = (fails ≡ false) × Rose before.absences now.absences
+TryCounts TriedTooLong fails before now = (fails ≡ false) × Rose before.overruns now.overruns
+TryCounts TriedFailed fails before now = (fails ≡ true) × Rose before.faults now.faults
+
+-- whether a file that was opened has few enough bytes
+abbrev pub TryFits : Tried → ℕ → Type 0
+TryFits (TriedOpened bytes) limit = length bytes.items ≤ limit
+TryFits TriedAbsent limit = Unit {0}
+TryFits TriedTooLong limit = Unit {0}
+TryFits TriedFailed limit = Unit {0}
+
+-- what comes of a try to read a file
+pub record IsTry (told : Option Table) (name : List ℕ) (limit : ℕ) (before now : Counts) (tried : Tried) : Type 0 where
+  pub finding : Finding told
+  pub gives : (next : Opening) → by_read finding.fails (finding.files name) limit name next ≡ tried_seen name tried next
+  pub counts : TryCounts tried finding.fails before now
+  pub fits : TryFits tried limit
+
+-- what comes of tries
+abbrev pub found_seen : Found → Opening
+found_seen (Opened name bytes) = opened name bytes.items
+found_seen Absent = none_found
+found_seen TooLong = too_long
+found_seen Failed = read_failed
+
+-- the reads from this number on find these
+abbrev pub FindsTwo : {told : Option Table} → World → ℕ → Finding told → Finding told → Type 0
+FindsTwo world number first second =
+    (world.files number ≡ first.files) × (world.fails number ≡ first.fails) × (world.files (suc number) ≡ second.files) × (world.fails (suc number) ≡ second.fails)
+
+-- which reads failed, and which count has risen
+abbrev pub FoundCounts : Found → Bool → Bool → Counts → Counts → Type 0
+FoundCounts (Opened name bytes) first second before now = (first ≡ false) × (second ≡ false)
+FoundCounts Absent first second before now = (first ≡ false) × (second ≡ false) × Rose before.absences now.absences
+FoundCounts TooLong first second before now = (first ≡ false) × (second ≡ false) × Rose before.overruns now.overruns
+FoundCounts Failed first second before now = Rose before.faults now.faults
+
+-- whether a file that was opened has few enough bytes
+abbrev pub FoundFits : Found → ℕ → Type 0
+FoundFits (Opened name bytes) limit = length bytes.items ≤ limit
+FoundFits Absent limit = Unit {0}
+FoundFits TooLong limit = Unit {0}
+FoundFits Failed limit = Unit {0}
+
+-- what comes of tries of these names
+pub record IsOpening (told : Option Table) (names : List (List ℕ)) (limit : ℕ) (before now : Counts) (found : Found) : Type 0 where
+  pub first : Finding told
+  pub second : Finding told
+  pub gives : (number : ℕ) (world : World) → FindsTwo world number first second → open_first world number limit names ≡ found_seen found
+  pub counts : FoundCounts found first.fails second.fails before now
+  pub fits : FoundFits found limit

@@ -1,0 +1,64 @@
+-- What a statement is to the reading of its file. No public clause cites this module.
+use Rattle.std.specs.Prelude.{◌≡◌, ℕ, ◌+◌, ◌≤◌, true, false, List, length, Option, None, Some, Result, Ok, Err}
+use Rattle.mg_word.specs.declared.clause.Name.{Name}
+use Rattle.tptp_lexer.specs.Tokens.{Lexed}
+use Rattle.tptp_lexer.specs.Spots.{spot_at}
+use Rattle.cnf_grammar.specs.declared.place.Place.{Place}
+use Rattle.cnf_grammar.specs.Table.{is_end}
+use Rattle.cnf_reader.specs.declared.fault.ReadKind.{ReadKind}
+use Rattle.cnf_reader.specs.declared.fault.ReadKind.TheVariants.{Expected}
+use Rattle.cnf_reader.specs.declared.fault.ReadFault.{ReadFault}
+use Rattle.cnf_reader.specs.declared.pending.Asked.{Asked}
+use Rattle.cnf_reader.specs.declared.pending.Pending.{Pending}
+use Rattle.cnf_reader.specs.declared.kept.Kept.{Kept}
+use Rattle.cnf_reader.specs.declared.part.Part.{Part}
+use Rattle.cnf_reader.specs.declared.part.Part.TheVariants.{Ended, Clause, Include, Fault}
+use Rattle.cnf_reader.specs.Statements.{fresh}
+use Rattle.cnf_reader.specs.Reading.{Source, read_tokens, and_then, fault_at}
+
+-- the reading of the file of an include
+abbrev pub Lower : Type 0
+Lower = Asked → Kept → Result Kept ReadFault
+
+-- a file of this name
+abbrev pub source_named : ℕ → List ℕ → List (Option (List Name)) → List ℕ → Source
+source_named number bytes selections name = record { name = name; number = number; bytes = bytes; selections = selections }
+
+-- the reading of a file of this name, where these tokens are left
+abbrev pub reads_on : Lower → Source → Pending → Kept → Lexed → Result Kept ReadFault
+reads_on lower source pending kept left = read_tokens lower source pending kept left.tokens left.fault
+
+-- not too many brackets are open at the place
+abbrev pub IsOpen : Place → Type 0
+IsOpen p = p.level + p.depth ≤ 100
+
+-- no include and no file is new
+abbrev pub Stays : Kept → Kept → Type 0
+Stays kept after = (after.includes ≡ kept.includes) × (after.bytes ≡ kept.bytes)
+
+-- how the reading of a file goes on with this part, whatever the file's name and whatever its includes are
+abbrev pub PartIs : ℕ → List ℕ → List (Option (List Name)) → Pending → Kept → Lexed → Part → Kept → Lexed → Type 0
+PartIs number bytes selections p kept left Ended after more =
+    (lower : Lower) (name : List ℕ) → reads_on lower (source_named number bytes selections name) p kept left ≡ Ok after
+PartIs number bytes selections p kept left (Clause next) after more =
+    IsOpen next × ((lower : Lower) (name : List ℕ) → reads_on lower (source_named number bytes selections name) p kept left ≡ reads_on lower (source_named number bytes selections name) (fresh next) after more)
+PartIs number bytes selections p kept left (Include next asked) after more =
+    IsOpen next × ((lower : Lower) (name : List ℕ) → reads_on lower (source_named number bytes selections name) p kept left
+    ≡ and_then (lower asked after) (λ behind. reads_on lower (source_named number bytes selections name) (fresh next) behind more))
+PartIs number bytes selections p kept left (Fault kind line column) after more =
+    (lower : Lower) (name : List ℕ) → reads_on lower (source_named number bytes selections name) p kept left ≡ fault_at kind name line column
+
+-- the same from the start of a statement
+abbrev pub IsPart : ℕ → List ℕ → List (Option (List Name)) → Place → Kept → Lexed → Part → Kept → Lexed → Type 0
+IsPart number bytes selections place kept left part after more = PartIs number bytes selections (fresh place) kept left part after more
+
+-- what the end of the tokens is at a place
+abbrev pub EndIs : Part → List ℕ → Place → Type 0
+EndIs Ended bytes p = is_end p ≡ true
+EndIs (Clause next) bytes p = ⊥
+EndIs (Include next asked) bytes p = ⊥
+EndIs (Fault kind line column) bytes p =
+    (is_end p ≡ false) × (kind ≡ Expected) × (line ≡ (spot_at bytes (length bytes)).line) × (column ≡ (spot_at bytes (length bytes)).column)
+
+abbrev pub IsEnd : List ℕ → Place → Part → Type 0
+IsEnd bytes p part = EndIs part bytes p

@@ -1,0 +1,161 @@
+//! Files that are open: how far each was read.
+
+ghost use Rattle.std.specs.Prelude.{◌≡◌, ◌∷◌, ◌≤◌, [], IfOk, OnOk, MatchOption, length};
+ghost use Rattle.cnf_reader.specs.Frames.{Advances};
+ghost use Rattle.cnf_reader.specs.Parts.{Stays};
+ghost use Rattle.tptp_lexer.specs.Tokens.{start_cursor};
+ghost use Rattle.cnf_grammar.specs.Table.{start};
+
+use crate::fault::ReadKind;
+use crate::kept::Kept;
+use crate::part::{Part, read_part};
+use crate::pending::Asked;
+use crate::selections::Selections;
+use cnf_grammar::Place;
+use mg_word::{NoMemory, Text};
+use std::alloc::Global;
+use std::marker::Model;
+use tptp_lexer::Cursor;
+
+/// A file that is open. Contracts see its name, its number, its bytes, and the cursor and the place
+/// in the grammar behind the statements that were read.
+#[derive(Drop)]
+pub struct OpenFile {
+    name: Text,
+    number: u32,
+    bytes: Vec<u8>,
+    cursor: Cursor,
+    place: Place,
+}
+
+impl Model for OpenFile {
+    ghost use Rattle.cnf_reader.specs.Frames.{FileData, file_seen, IsFileOpen};
+
+    ghost Value = { FileData };
+
+    ghost view = { file_seen };
+
+    ghost invariant = { IsFileOpen };
+}
+
+/// What was read of a file.
+#[derive(Drop)]
+pub enum Step {
+    /// All of it.
+    Ended,
+    /// A clause.
+    Clause,
+    /// An include.
+    Include(Asked),
+    /// A fault at this line and column.
+    Fault(ReadKind, u32, u32),
+}
+
+impl OpenFile {
+    /// The file of this name and number, of which nothing was read.
+    pub fn new(alloc: Global, name: Text, number: u32, bytes: Vec<u8>) -> OpenFile
+        requires { length bytes.items ≤ 16777216 }
+        ensures { result ≡ record { name = name; number = number; bytes = bytes.items; cursor = start_cursor; place = start } }
+    {
+        OpenFile {
+            name,
+            number,
+            bytes,
+            cursor: Cursor::start(),
+            place: Place::start(alloc),
+        }
+    }
+
+    /// The name under which it was read.
+    pub fn name(&self) -> &[u8]
+        ensures { result.now ≡ self.now.name }
+    {
+        self.name.as_slice()
+    }
+
+    /// Reads one statement, and keeps it if it is a clause.
+    pub fn read(
+        self,
+        alloc: Global,
+        selections: &Selections,
+        kept: &mut Kept,
+    ) -> Result<(Step, OpenFile), NoMemory>
+        ensures stays { OnOk result (Stays kept.old kept.new) }
+        ensures advances { IfOk result (λ made. Advances selections.now kept.old self made.0 kept.new made.1) }
+    {
+        let OpenFile {
+            name,
+            number,
+            bytes,
+            mut cursor,
+            place,
+        } = self;
+        let part = read_part(alloc, &bytes, &mut cursor, place, number, selections, kept)?;
+        let (step, place) = match part {
+            Part::Ended => (Step::Ended, Place::start(alloc)),
+            Part::Clause(place) => (Step::Clause, place),
+            Part::Include(place, asked) => (Step::Include(asked), place),
+            Part::Fault(kind, line, column) => (
+                Step::Fault(kind, line, column),
+                Place::start(alloc),
+            ),
+        };
+        let file = OpenFile {
+            name,
+            number,
+            bytes,
+            cursor,
+            place,
+        };
+        Ok((step, file))
+    }
+}
+
+/// The files that are open outside of the innermost. Contracts see them as a list, the innermost
+/// first.
+#[derive(Drop)]
+pub struct OpenFiles {
+    files: Vec<OpenFile>,
+}
+
+impl Model for OpenFiles {
+    ghost use Rattle.std.specs.Prelude.{List, reverse};
+    ghost use Rattle.cnf_reader.specs.Frames.{FileData};
+
+    ghost Value = { List FileData };
+
+    ghost view = { λ stack. reverse stack.files.items };
+}
+
+impl OpenFiles {
+    /// No file. It takes no memory.
+    pub fn empty(alloc: Global) -> OpenFiles
+        ensures { result ≡ [] }
+    {
+        OpenFiles {
+            files: Vec::new(alloc),
+        }
+    }
+
+    /// How many files there are.
+    pub fn len(&self) -> usize
+        ensures { result ≡ length self.now }
+    {
+        self.files.len()
+    }
+
+    /// Puts a file inside of the others.
+    pub fn push(&mut self, file: OpenFile) -> Result<(), NoMemory>
+        ensures { OnOk result (self.new ≡ file ∷ self.old) }
+    {
+        self.files.push(file)?;
+        Ok(())
+    }
+
+    /// Takes the innermost file.
+    pub fn pop(&mut self) -> Option<OpenFile>
+        ensures { MatchOption result (self.old ≡ []) (λ file. self.old ≡ file ∷ self.new) }
+    {
+        self.files.pop()
+    }
+}

@@ -1,0 +1,166 @@
+//! One statement of a file, from its first token to its dot.
+
+ghost use Rattle.std.specs.Prelude.{◌≡◌, ◌+◌, ◌≤◌, length, IfOk, OnOk};
+ghost use Rattle.tptp_lexer.specs.Tokens.{left_of, IsAt};
+ghost use Rattle.cnf_grammar.specs.Seen.{seen};
+ghost use Rattle.cnf_reader.specs.Keeping.{keep as kept_with, is_full};
+ghost use Rattle.cnf_reader.specs.Parts.{IsPart, IsEnd, Stays};
+ghost use Rattle.cnf_reader.specs.declared.part.Part.TheVariants.{Include};
+
+use crate::end::end_of;
+use crate::fault::ReadKind;
+use crate::kept::Kept;
+use crate::numbers::number_literals;
+use crate::pending::{Asked, Pending};
+use crate::selections::Selections;
+use cnf_grammar::{Lexeme, Mode, Place};
+use mg_word::{Clause, Items, NoMemory, Place as ClausePlace};
+use std::alloc::Global;
+use tptp_lexer::{Cursor, next_token};
+
+/// What stands in a file behind the statements that were read.
+#[derive(Drop)]
+pub enum Part {
+    /// The end of the file.
+    Ended,
+    /// A clause, which is kept if it is selected, and the place behind it.
+    Clause(Place),
+    /// An include, and the place behind it.
+    Include(Place, Asked),
+    /// A fault at this line and column.
+    Fault(ReadKind, u32, u32),
+}
+
+// Keeps the clause of the statement, where each selection has its name, and gives back the place.
+#[tactic(auto, unfolding(crate::specs::Keeping::keep))]
+fn keep(
+    alloc: Global,
+    selections: &Selections,
+    kept: &mut Kept,
+    number: u32,
+    pending: Pending,
+) -> Result<Place, NoMemory>
+    ensures kept { IfOk result (λ place. (place ≡ pending.entry.place) × (kept.new ≡ kept_with selections.now kept.old number pending.entry)) }
+    ensures stays { OnOk result (Stays kept.old kept.new) }
+{
+    let Pending {
+        place,
+        line,
+        column,
+        name,
+        draft,
+        words: _,
+        item: _,
+        chosen: _,
+        conclude,
+        asked: _,
+    } = pending;
+    if !selections.have(&name) {
+        return Ok(place);
+    }
+    let literals = number_literals(alloc, &mut kept.symbols, draft.literals())?;
+    let clause = Clause {
+        name,
+        place: ClausePlace {
+            file: number,
+            line,
+            column,
+        },
+        literals: Items::new(literals),
+        variables: draft.into_variables(),
+        conclude,
+    };
+    kept.clauses.push(clause)?;
+    Ok(place)
+}
+
+// What the end of the tokens is at this place.
+fn end_part(bytes: &[u8], place: &Place) -> Part
+    requires { length bytes.now ≤ 16777216 }
+    ensures { IsEnd bytes.now place.now result }
+{
+    match place.mode {
+        Mode::Statement => Part::Ended,
+        _ => {
+            let (line, column) = end_of(bytes);
+            Part::Fault(ReadKind::Expected, line, column)
+        }
+    }
+}
+
+/// Reads one statement of a file, whose number this is, and keeps it if it is a clause.
+pub fn read_part(
+    alloc: Global,
+    bytes: &[u8],
+    cursor: &mut Cursor,
+    place: Place,
+    number: u32,
+    selections: &Selections,
+    kept: &mut Kept,
+) -> Result<Part, NoMemory>
+    requires small { length bytes.now ≤ 16777216 }
+    requires at { IsAt bytes.now cursor.old }
+    requires open { place.level + place.depth ≤ 100 }
+    ensures at { IsAt bytes.now cursor.new }
+    ensures stays { OnOk result (Stays kept.old kept.new) }
+    ensures part { IfOk result (λ part. IsPart number bytes.now selections.now place kept.old (left_of bytes.now cursor.old) part kept.new (left_of bytes.now cursor.new)) }
+{
+    let is_full = kept.clauses.as_slice().len() >= 20000;
+    let mut pending = Pending::fresh(alloc, place);
+    for _ in 0..u64::MAX {
+        let found = match next_token(bytes, cursor) {
+            Ok(found) => found,
+            Err(fault) => {
+                return Ok(Part::Fault(ReadKind::Lex(fault.kind), fault.line, fault.column));
+            }
+        };
+        let Some(token) = found else {
+            return Ok(end_part(bytes, &pending.place));
+        };
+        let lexeme = Lexeme {
+            kind: token.kind,
+            text: &bytes[token.start as usize..token.end as usize],
+            plain: token.plain,
+        };
+        let mode = pending.place.mode;
+        let fault = pending.take(
+            alloc,
+            is_full,
+            selections,
+            &lexeme,
+            token.line,
+            token.column,
+        )?;
+        if let Some(kind) = fault {
+            return Ok(Part::Fault(kind, token.line, token.column));
+        }
+        match mode {
+            Mode::ClauseClosed => {
+                let place = keep(alloc, selections, kept, number, pending)?;
+                return Ok(Part::Clause(place));
+            }
+            Mode::IncludeClosed => return Ok(include_part(pending)),
+            _ => {}
+        }
+    }
+    Err(NoMemory)
+}
+
+// The include of the statement, and the place behind it.
+fn include_part(pending: Pending) -> Part
+    ensures { result ≡ Include pending.entry.place pending.entry.asked }
+{
+    let Pending {
+        place,
+        line: _,
+        column: _,
+        name: _,
+        draft: _,
+        words: _,
+        item: _,
+        chosen: _,
+        conclude: _,
+        asked,
+    } = pending;
+    Part::Include(place, asked)
+}
