@@ -1,0 +1,6 @@
+pub mod Gaining
+pub mod Memory
+pub mod Strokes
+pub mod Telling
+pub mod Words
+pub mod Exactness

@@ -1,0 +1,22 @@
+-- What the words after the program's name ask for.
+use Rattle.std.specs.Prelude.{◌≡◌, ℕ, Bool, false, not, nat_eq, List, [], ◌∷◌, codes, IsTrue}
+
+-- a word that names a file: it is not empty and does not begin with a minus sign
+abbrev pub is_name : List ℕ → Bool
+is_name [] = false
+is_name (byte ∷ bytes) = not (nat_eq byte 45)
+
+-- a command: the check of a tree of a problem, or the forms of a problem
+pub data Request : Type 0 where
+  Check : (file tree : List ℕ) → Request
+  Forms : (file : List ℕ) → Request
+
+-- the words ask for it
+abbrev pub Asks : List (List ℕ) → Request → Type 0
+Asks words (Check file tree) = (words ≡ codes "check" ∷ file ∷ tree ∷ []) × IsTrue (is_name file) × IsTrue (is_name tree)
+Asks words (Forms file) = (words ≡ codes "forms" ∷ file ∷ []) × IsTrue (is_name file)
+
+-- the problem's file that a command names
+abbrev pub problem_file : Request → List ℕ
+problem_file (Check file tree) = file
+problem_file (Forms file) = file

@@ -1,0 +1,12 @@
+pub mod Answers
+pub mod Asking
+pub mod Checks
+pub mod FormLines
+pub mod Lines
+pub mod Names
+pub mod Parts
+pub mod Printing
+pub mod Requests
+pub mod Runs
+pub mod Troubles
+pub mod Exact

@@ -1,0 +1,44 @@
+//! `mgtp`, a verified model generation theorem prover: the command line over real files and streams.
+#![tactic(auto)]
+
+mod answer;
+mod answering;
+mod putting;
+mod reporting;
+mod request;
+mod szs_report;
+mod top;
+
+use mg_outside::{StdFiles, StdSink};
+use std::alloc::AllocError;
+use std::env;
+use std::io;
+use std::process::ExitCode;
+
+/// The status of a run whose words the runtime refused, as words that are no text.
+const NO_WORDS: u8 = 5;
+
+// The words after the program's name.
+fn words_of(rt: &HostRuntime) -> io::Result<Vec<String>> {
+    let mut words = Vec::new(rt.alloc());
+    for word in env::args(rt)?.skip(1) {
+        words.push(word).map_err(AllocError::from)?;
+    }
+    Ok(words)
+}
+
+fn main(rt: HostRuntime) -> ExitCode {
+    let Ok(words) = words_of(&rt) else {
+        return ExitCode::from(NO_WORDS);
+    };
+    let mut files = StdFiles::new(&rt);
+    let mut out = StdSink::new(rt.stdout());
+    let mut err = StdSink::new(rt.stderr());
+    ExitCode::from(top::run_alone(
+        rt.alloc(),
+        &words,
+        &mut files,
+        &mut out,
+        &mut err,
+    ))
+}

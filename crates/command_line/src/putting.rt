@@ -1,0 +1,91 @@
+//! The putting of reports: the output first, then the messages, and nothing behind a failed put.
+
+ghost use Rattle.std.specs.Prelude.{◌≡◌, ◌≤◌, ◌<◌, [], ◌∷◌, List, ℕ, map};
+ghost use Rattle.std.specs.List.{flat_map};
+ghost use Rattle.mg_outside.specs.Causes.{Rose};
+ghost use Rattle.mg_outside.specs.Putting.{Gained, TookFront, OnAllPut, OnPutFailed};
+ghost use Rattle.std.specs.Option.{option_map};
+ghost use Rattle.command_line.specs.Answers.{memory_lines, memory_status};
+ghost use Rattle.command_line.specs.Lines.{status_line};
+ghost use Rattle.command_line.specs.Printing.{Printed, text_of};
+
+use crate::szs_report::{FaultReport, put_report};
+use mg_outside::{PutAnswer, Sink};
+
+/// The status of a run whose lines could not all be put.
+const PUT_FAILED: u8 = 3;
+
+/// The status of a run that memory was not enough for.
+const MEMORY_OUT: u8 = 4;
+
+// Puts one piece after the other. At the first failure it stops.
+fn put_pieces<O: Sink>(pieces: &[&[u8]], sink: &mut O) -> PutAnswer
+    ensures done { OnAllPut result (Gained (O.held sink.old) (O.held sink.new) (flat_map (λ piece. piece.now) pieces.now)) }
+    ensures failed { OnPutFailed result (TookFront (O.held sink.old) (O.held sink.new) (flat_map (λ piece. piece.now) pieces.now)) }
+    ensures cause { OnPutFailed result (Rose (O.faults sink.old) (O.faults sink.new)) }
+    ensures faults { O.faults sink.old ≤ O.faults sink.new }
+{
+    for piece in pieces {
+        if let PutAnswer::Failed = sink.put(piece) {
+            return PutAnswer::Failed;
+        }
+    }
+    PutAnswer::Done
+}
+
+/// Puts the lines of an answer, and gives its status, or that of a failed put.
+pub fn put_answer<O: Sink, E: Sink>(
+    report: &FaultReport,
+    status: u8,
+    out: &mut O,
+    err: &mut E,
+) -> u8
+    ensures { Printed
+        (record { held = O.held out.old; faults = O.faults out.old })
+        (record { held = O.held out.new; faults = O.faults out.new })
+        (record { held = E.held err.old; faults = E.faults err.old })
+        (record { held = E.held err.new; faults = E.faults err.new })
+        report.now.out report.now.err status result }
+{
+    if let PutAnswer::Failed = put_report(&report.out, out) {
+        return PUT_FAILED;
+    }
+    if let PutAnswer::Failed = put_report(&report.err, err) {
+        return PUT_FAILED;
+    }
+    status
+}
+
+// Puts the status line of want of memory, where there is a name for it.
+fn put_memory_status<O: Sink>(name: Option<&str>, out: &mut O) -> PutAnswer
+    ensures done { OnAllPut result (Gained (O.held out.old) (O.held out.new) (text_of (memory_status (option_map (λ name. name.now) name.entry)))) }
+    ensures failed { OnPutFailed result (TookFront (O.held out.old) (O.held out.new) (text_of (memory_status (option_map (λ name. name.now) name.entry)))) }
+    ensures cause { OnPutFailed result (Rose (O.faults out.old) (O.faults out.new)) }
+{
+    match name {
+        None => PutAnswer::Done,
+        Some(name) => put_pieces(
+            &[b"% SZS status MemoryOut for ", name.as_bytes(), b"\n"],
+            out,
+        ),
+    }
+}
+
+/// Puts, without taking memory, that memory ran out: a status line where a problem was asked for,
+/// and a message.
+pub fn put_memory_out<O: Sink, E: Sink>(name: Option<&str>, out: &mut O, err: &mut E) -> u8
+    ensures { Printed
+        (record { held = O.held out.old; faults = O.faults out.old })
+        (record { held = O.held out.new; faults = O.faults out.new })
+        (record { held = E.held err.old; faults = E.faults err.old })
+        (record { held = E.held err.new; faults = E.faults err.new })
+        (memory_status (option_map (λ name. name.now) name.entry)) memory_lines 4 result }
+{
+    if let PutAnswer::Failed = put_memory_status(name, out) {
+        return PUT_FAILED;
+    }
+    if let PutAnswer::Failed = put_pieces(&[b"mgtp: out of memory\n"], err) {
+        return PUT_FAILED;
+    }
+    MEMORY_OUT
+}

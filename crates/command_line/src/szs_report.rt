@@ -1,0 +1,13 @@
+//! Reports: the lines of each answer, and how they are put.
+
+mod check;
+mod faults;
+mod forms;
+mod names;
+mod report;
+
+pub use check::{CheckAnswer, report_check};
+pub use faults::{FaultReport, Trouble, report_fault};
+pub use forms::report_forms;
+pub use names::szs_name;
+pub use report::{Report, put_report};
