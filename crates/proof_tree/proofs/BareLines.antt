@@ -1,10 +1,9 @@
 -- How the lines that begin with `%` are passed over.
-use Rattle.std.proofs.Common.{◌≡◌, ◌≢◌, ℕ, ◌+◌, ◌≤◌, ◌<◌, Bool, true, false, true≢false, not, ◌&&◌, nat_eq, List, [], ◌∷◌, ◌++◌, length, take, drop, slice_index_or, refl, sym, ap, ◌∙◌, subst, eqb-true, eq-eqb, arith, if◌then◌else◌}
-use Rattle.std.specs.List.{list_all}
+use Rattle.std.proofs.Common.{◌≡◌, ◌≢◌, ℕ, ◌+◌, ◌<◌, Bool, true, false, true≢false, not, nat_eq, List, [], ◌∷◌, ◌++◌, length, drop, slice_index_or, refl, sym, ap, ◌∙◌, subst, eqb-true, eq-eqb, if◌then◌else◌}
 use Rattle.std.proofs.lemmas.List.{drop_more}
-use Rattle.proof_tree.specs.DocText.{Spot, start, kept, passed, next_spot, kept_byte, bare_from, bare}
+use Rattle.proof_tree.specs.DocText.{start, kept, passed, bare_from, bare}
 use Rattle.proof_tree.specs.DocFaults.{is_no_feed, has_no_feed, begins_with, BeginsWithLine}
-use Rattle.proof_tree.proofs.Texts.{both, joined, not_true, stops, IsCut}
+use Rattle.proof_tree.proofs.Texts.{both, joined, not_true, stops}
 
 no_feed : (byte : ℕ) → is_no_feed byte ≡ true → nat_eq byte 10 ≡ false
 no_feed byte is = not_true (nat_eq byte 10) is

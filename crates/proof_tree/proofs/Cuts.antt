@@ -1,7 +1,6 @@
 -- Tests that the reading makes, as the definitions say them.
-use Rattle.std.proofs.Common.{◌≡◌, ℕ, ◌≤◌, Bool, true, false, true≢false, ◌&&◌, nat_eq, eqb, List, [], ◌∷◌, ◌++◌, length, take, take_while, slice_index_or, refl, sym, ap, ◌∙◌, subst, eqb-true, eq-eqb, arith}
+use Rattle.std.proofs.Common.{◌≡◌, ℕ, ◌≤◌, Bool, true, false, true≢false, ◌&&◌, nat_eq, eqb, List, [], ◌∷◌, ◌++◌, length, take_while, slice_index_or, refl, sym, ap, ◌∙◌, eqb-true, eq-eqb, arith}
 use Rattle.std.specs.List.{list_all, starts_with}
-use Rattle.std.specs.Cmp.Lexicographic.{pointwise}
 use Rattle.mg_word.specs.Spelling.{is_lower_letter, is_word_byte, is_lower_word}
 use Rattle.proof_tree.specs.DocFaults.{begins_with}
 use Rattle.proof_tree.proofs.Texts.{cut_whole, whole_cut}

@@ -1,18 +1,18 @@
 -- What the parts of a text say of it as a whole.
-use Rattle.std.proofs.Common.{◌≡◌, ◌≢◌, ℕ, zero, suc, ◌+◌, ◌^◌, ◌≤◌, ◌<◌, Bool, true, false, true≢false, List, [], ◌∷◌, ◌++◌, map, length, All, Result, Ok, Err, MatchResult, IfOk, IfErr, refl, sym, ap, ◌∙◌, subst, append_assoc, append-nil, length-append, arith}
+use Rattle.std.proofs.Common.{◌≡◌, ◌≢◌, ℕ, ◌+◌, ◌^◌, ◌<◌, true, true≢false, List, [], ◌∷◌, ◌++◌, map, length, refl, sym, ap, ◌∙◌, subst, arith}
 use Rattle.std.proofs.lemmas.List.{length-map}
 use Rattle.std.proofs.lemmas.List.Elements.{All-nil}
 use Rattle.mg_word.specs.Facts.{ProblemData}
-use Rattle.tree_checker.specs.Docs.{AreLines, IsWellFormed, IsBlock}
+use Rattle.tree_checker.specs.Docs.{IsBlock}
 use Rattle.tree_checker.specs.declared.doc.Doc.{Doc}
 use Rattle.tree_checker.specs.declared.doc.TreeLine.{TreeLine}
 use Rattle.tree_checker.specs.declared.doc_fault.DocKind.{DocKind}
 use Rattle.tree_checker.specs.declared.doc_fault.DocKind.TheVariants.{Header, NotBuilt, Syntax, Block, FormNumber, Unknown, Heavy, Order, Early, Rest}
 use Rattle.tree_checker.specs.declared.doc_fault.DocFault.{DocFault}
 use Rattle.tree_checker.specs.declared.doc_fault.DocFault.TheVariants.{Line, NoMemory}
-use Rattle.proof_tree.specs.DocText.{line_text, ended, header, root_word, doc_text, blocks_lines, bare, IsDocText, NamesForm}
-use Rattle.proof_tree.specs.DocFaults.{has_no_feed, BeginsWithLine, FaultAt, LineFault, Place, at_header, at_root, in_tree, FirstFault, IsDocFault, is_later_line}
-use Rattle.proof_tree.specs.Lines.{IsTreeText, IsTreeFault, NoTree, TreeFault, IsOnlyTree, EarlyFault}
+use Rattle.proof_tree.specs.DocText.{line_text, ended, header, root_word, blocks_lines, bare, IsDocText}
+use Rattle.proof_tree.specs.DocFaults.{has_no_feed, BeginsWithLine, FaultAt, LineFault, Place, at_header, at_root, in_tree, FirstFault, IsDocFault}
+use Rattle.proof_tree.specs.Lines.{IsTreeText, TreeFault, IsOnlyTree}
 use Rattle.proof_tree.proofs.TreeFronts.{feed_in, line_unique}
 
 -- what is wrong with a text that begins with that line is so of the line

@@ -1,25 +1,23 @@
 -- A line that names a form: what it is of the problem, and that it is nothing else.
-use Rattle.std.proofs.Common.{◌≡◌, ◌≢◌, ℕ, zero, suc, ◌+◌, ◌-◌, ◌^◌, ◌≤◌, ◌<◌, Bool, true, false, true≢false, ◌&&◌, List, [], ◌∷◌, ◌++◌, map, length, slice_index_or, slice_get, Option, Some, None, IsSome, Contains, All, AllPairs, Any, MatchBool, MatchResult, Result, Ok, Err, refl, sym, ap, ◌∙◌, subst, inl, inr, ◌⊎◌, codes, arith}
-use Rattle.std.specs.List.{list_all, flat_map}
+use Rattle.std.proofs.Common.{◌≡◌, ◌≢◌, ℕ, zero, suc, ◌+◌, ◌^◌, ◌≤◌, ◌<◌, Bool, true, false, true≢false, List, [], ◌∷◌, ◌++◌, map, length, slice_index_or, slice_get, Option, Some, None, IsSome, All, AllPairs, Any, MatchBool, MatchResult, Result, Ok, Err, refl, sym, ap, ◌∙◌, subst, inl, inr, codes, arith}
+use Rattle.std.specs.List.{list_all}
 use Rattle.std.specs.Option.{option_map_or, option_to_list}
 use Rattle.std.specs.Fmt.{decimal}
 use Rattle.std.proofs.lemmas.Bool.{cases_order}
-use Rattle.std.proofs.lemmas.Option.{slice_get_within, get_or_from_slice_get, slice_get_cases, slice_get-get_or}
-use Rattle.std.proofs.lemmas.List.Elements.{All-head, All-tail, All-cons, All-nil, All-map, All-get_or}
-use Rattle.mg_word.specs.Table.{Symbol, symbol_of}
-use Rattle.mg_word.specs.Words.{are_terms, fits, numbered}
+use Rattle.std.proofs.lemmas.Option.{slice_get_within, get_or_from_slice_get, slice_get_cases}
+use Rattle.std.proofs.lemmas.List.Elements.{All-head, All-tail, All-cons, All-nil, All-map}
+use Rattle.mg_word.specs.Table.{Symbol}
+use Rattle.mg_word.specs.Words.{are_terms, numbered}
 use Rattle.mg_word.specs.Facts.{ProblemData, is_symbol}
 use Rattle.mg_word.specs.Spelling.{spelled, spelled_symbols, symbols_at}
 use Rattle.mg_word.specs.declared.form.Form.{Form}
-use Rattle.mg_word.specs.declared.symbol.Kind.TheVariants.{Word}
-use Rattle.tree_checker.specs.Docs.{IsWordOf, LineFits, IsKnown, most_symbols}
+use Rattle.tree_checker.specs.Docs.{IsWordOf}
 use Rattle.tree_checker.specs.declared.doc.TreeLine.{TreeLine}
 use Rattle.tree_checker.specs.declared.doc.TreeLine.TheVariants.{Form as FormLine, Clash, Barred, By}
-use Rattle.tree_checker.specs.declared.doc_fault.DocKind.{DocKind}
 use Rattle.tree_checker.specs.declared.doc_fault.DocKind.TheVariants.{Header, NotBuilt, Syntax, Block, FormNumber, Unknown, Heavy, Order, Early, Rest}
-use Rattle.proof_tree.specs.DocText.{form_line, in_brackets, line_text, NamesForm}
-use Rattle.proof_tree.specs.DocFaults.{are_own_terms, IsOwnTerm, IsFormLine, IsSymbolOf, HasUnknown, AllKnown, IsHeavy, TreeLineFault, is_later_line}
-use Rattle.proof_tree.specs.Lists.{AreNumbers, AreWords, IsLight, IsListAt, IsOnlyList, NoList, IsListRead, IsVerdict}
+use Rattle.proof_tree.specs.DocText.{form_line, in_brackets}
+use Rattle.proof_tree.specs.DocFaults.{are_own_terms, IsOwnTerm, IsFormLine, IsSymbolOf, HasUnknown, AllKnown, IsHeavy, is_later_line}
+use Rattle.proof_tree.specs.Lists.{AreNumbers, AreWords, IsLight, NoList, IsListRead}
 use Rattle.proof_tree.specs.Lines.{IsLineOf, IsOnlyLine, IsNoLine, IsSplitSo, IsOnlySplit, IsNumbered, IsRefused}
 use Rattle.proof_tree.specs.declared.form_lines.LineFault.{LineFault as Fault}
 use Rattle.proof_tree.specs.declared.form_lines.LineFault.TheVariants.{Wrong, NoMemory}

@@ -1,10 +1,10 @@
 -- The reading of a list of terms, term by term.
-use Rattle.std.proofs.Common.{◌≡◌, ℕ, ◌≤◌, ◌<◌, Bool, true, false, true≢false, nat_eq, List, [], ◌∷◌, ◌++◌, map, length, All, refl, sym, ap, ◌∙◌, subst, append_assoc, arith}
+use Rattle.std.proofs.Common.{◌≡◌, ℕ, true, List, [], ◌∷◌, ◌++◌, map, refl, sym, ap, ◌∙◌, subst, append_assoc, arith}
 use Rattle.std.proofs.lemmas.List.Elements.{All-head, All-tail, All-cons, All-nil}
 use Rattle.mg_word.specs.Table.{Symbol}
 use Rattle.mg_word.specs.Spelling.{spelled_symbols}
-use Rattle.proof_tree.specs.DocText.{after_items, in_brackets}
-use Rattle.proof_tree.specs.DocFaults.{IsOwnTerm, begins_with}
+use Rattle.proof_tree.specs.DocText.{after_items}
+use Rattle.proof_tree.specs.DocFaults.{IsOwnTerm}
 use Rattle.proof_tree.specs.Terms.{ends_term, IsTermAt, IsOnlyTerm, NoTerm}
 use Rattle.proof_tree.specs.Lists.{IsListAt, IsOnlyList, NoList, IsNextTerm, IsListing}
 use Rattle.proof_tree.proofs.Texts.{heads, tails}

@@ -1,8 +1,8 @@
 -- What the look-up of a symbol in the table finds.
-use Rattle.std.proofs.Common.{◌≡◌, ℕ, zero, suc, ◌+◌, ◌-◌, ◌^◌, ◌≤◌, ◌<◌, min, Bool, true, false, not, ◌&&◌, nat_eq, nat_le, List, [], ◌∷◌, ◌++◌, length, drop, slice_index_or, slice_get, Contains, Option, Some, None, IsNone, IfSome, MatchOption, ◌↔◌, refl, sym, ap, ◌∙◌, subst, length-append, length-drop, append_assoc, arith}
+use Rattle.std.proofs.Common.{◌≡◌, ℕ, zero, suc, ◌^◌, ◌≤◌, ◌<◌, true, nat_eq, List, [], ◌∷◌, length, drop, slice_index_or, slice_get, Contains, Option, Some, None, IsNone, IfSome, MatchOption, ◌↔◌, refl, sym, ap, ◌∙◌, subst, length-drop, arith}
 use Rattle.std.specs.List.{list_all}
 use Rattle.std.proofs.lemmas.Bool.Decides.{nat_tests}
-use Rattle.std.proofs.Common.{Result, Ok, Err, IfOk, slice_index}
+use Rattle.std.proofs.Common.{Result, Ok, Err, IfOk}
 use Rattle.std.specs.Str.{IsAscii}
 use Rattle.std.proofs.lemmas.Option.{slice_get_within, get_or_from_slice_get}
 use Rattle.mg_word.specs.Table.{Symbol, symbol_of}
@@ -10,7 +10,7 @@ use Rattle.mg_word.specs.Facts.{is_name_byte, is_digit, suits, is_plain_number}
 use Rattle.mg_word.specs.declared.symbol.Kind.{Kind}
 use Rattle.mg_word.specs.declared.symbol.Kind.TheVariants.{Word, Integer, Distinct}
 use Rattle.proof_tree.specs.DocFaults.{IsSymbolOf}
-use Rattle.proof_tree.specs.Names.{IsNameAt, IsOnlyName, NoName}
+use Rattle.proof_tree.specs.Names.{IsOnlyName}
 use Rattle.proof_tree.specs.Terms.{IsRaw, AreRaws}
 use Rattle.proof_tree.proofs.Texts.{both, all_weaker}
 use Rattle.proof_tree.proofs.NameShapes.{plain_digits, no_empty_name}

@@ -1,10 +1,10 @@
 -- The four shapes of a name, told apart by its first byte.
-use Rattle.std.proofs.Common.{◌≡◌, ◌≢◌, ℕ, ◌≤◌, Bool, true, false, true≢false, not, ◌&&◌, ◌||◌, nat_eq, ◌⊎◌, inl, inr, List, [], ◌∷◌, ◌++◌, length, drop, refl, sym, ap, ◌∙◌, subst, append_assoc, append-nil, arith}
+use Rattle.std.proofs.Common.{◌≡◌, ℕ, ◌≤◌, Bool, true, false, true≢false, not, ◌&&◌, ◌||◌, nat_eq, ◌⊎◌, inl, inr, List, [], ◌∷◌, ◌++◌, length, refl, sym, ap, ◌∙◌, subst, append_assoc, arith}
 use Rattle.std.specs.List.{list_all, flat_map}
 use Rattle.std.specs.Bool.{if◌then◌else◌}
 use Rattle.std.proofs.lemmas.Bool.Decides.{nat_tests}
-use Rattle.mg_word.specs.Facts.{is_name_byte, is_digit, is_plain_number, suits}
-use Rattle.mg_word.specs.Spelling.{is_lower_letter, is_upper_letter, is_word_byte, is_lower_word, begins_lower, escaped, quoted, spelled_name}
+use Rattle.mg_word.specs.Facts.{is_name_byte, is_digit, is_plain_number}
+use Rattle.mg_word.specs.Spelling.{is_lower_letter, is_upper_letter, is_word_byte, is_lower_word, begins_lower, escaped, quoted}
 use Rattle.mg_word.specs.declared.symbol.Kind.{Kind}
 use Rattle.mg_word.specs.declared.symbol.Kind.TheVariants.{Word, Integer, Distinct}
 use Rattle.proof_tree.specs.Names.{IsNameAt, IsOnlyName, IsQuotedAt, IsOnlyQuoted, NoName, ends_name, quoted_kind, begins_digit}

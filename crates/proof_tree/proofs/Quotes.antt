@@ -1,11 +1,10 @@
 -- Names between quotes: how their bytes are written, and how they are read byte by byte.
-use Rattle.std.proofs.Common.{◌≡◌, ◌≢◌, ℕ, ◌≤◌, Bool, true, false, true≢false, not, ◌&&◌, ◌||◌, nat_eq, ◌⊎◌, inl, inr, List, [], ◌∷◌, ◌++◌, length, drop, refl, sym, ap, ◌∙◌, subst, append_assoc, append-nil, eqb-true, arith}
+use Rattle.std.proofs.Common.{◌≡◌, ℕ, Bool, true, false, ◌||◌, nat_eq, ◌⊎◌, inl, inr, List, [], ◌∷◌, ◌++◌, refl, sym, ap, ◌∙◌, subst, append_assoc, append-nil, arith}
 use Rattle.std.specs.List.{list_all, flat_map}
 use Rattle.std.specs.Bool.{if◌then◌else◌}
 use Rattle.std.proofs.lemmas.Bool.Decides.{nat_tests}
-use Rattle.std.proofs.lemmas.List.Folds.{list_all-append}
 use Rattle.mg_word.specs.Facts.{is_name_byte}
-use Rattle.mg_word.specs.Spelling.{escaped, quoted}
+use Rattle.mg_word.specs.Spelling.{escaped}
 use Rattle.proof_tree.specs.Names.{IsQuotedAt, IsOnlyQuoted, IsByteAt, NoByte, IsUnquoting}
 use Rattle.proof_tree.proofs.Texts.{both, joined}
 

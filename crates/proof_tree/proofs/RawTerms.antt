@@ -1,8 +1,8 @@
 -- What the buffers of a term's reading hold, step by step.
-use Rattle.std.proofs.Common.{◌≡◌, ℕ, zero, suc, ◌+◌, ◌-◌, ◌^◌, ◌≤◌, ◌<◌, min, List, [], ◌∷◌, ◌++◌, length, drop, reverse, slice_index_or, slice_set, refl, sym, ap, ◌∙◌, subst, append_assoc, append-nil, length-append, length-drop, arith}
+use Rattle.std.proofs.Common.{◌≡◌, ℕ, suc, ◌+◌, ◌-◌, ◌^◌, ◌≤◌, ◌<◌, min, List, [], ◌∷◌, ◌++◌, length, drop, reverse, slice_index_or, slice_set, refl, sym, ap, ◌∙◌, subst, append_assoc, length-append, arith}
 use Rattle.std.proofs.lemmas.List.{same_from_push, drop_at, take-append-drop, reverse-append}
 use Rattle.std.proofs.Common.{take}
-use Rattle.mg_word.specs.Table.{Symbol, symbol_of}
+use Rattle.mg_word.specs.Table.{Symbol}
 use Rattle.proof_tree.specs.Terms.{IsRaw, AreRaws, Level, flat, places, raised, raised_raw, no_raw, AreHeld}
 use Rattle.proof_tree.proofs.TermSteps.{more_of}
 use Rattle.proof_tree.specs.declared.terms.Raw.{Raw}

@@ -1,11 +1,11 @@
 -- The reading of a term, step by step: its text with what its buffers hold.
-use Rattle.std.proofs.Common.{◌≡◌, ℕ, zero, suc, ◌+◌, ◌-◌, ◌≤◌, ◌<◌, Bool, true, false, List, [], ◌∷◌, ◌++◌, length, drop, reverse, slice_index_or, slice_set, refl, sym, ap, ◌∙◌, subst, length-append, length-drop, append_assoc, arith}
+use Rattle.std.proofs.Common.{◌≡◌, ℕ, ◌+◌, ◌≤◌, ◌<◌, true, false, List, [], ◌∷◌, ◌++◌, length, drop, reverse, slice_index_or, slice_set, refl, sym, ap, ◌∙◌, subst, length-append, length-drop, arith}
 use Rattle.std.proofs.lemmas.List.{drop-drop}
 use Rattle.mg_word.specs.Table.{Symbol, symbol_of}
 use Rattle.mg_word.specs.declared.symbol.Kind.{Kind}
 use Rattle.mg_word.specs.declared.symbol.Kind.TheVariants.{Word}
-use Rattle.proof_tree.specs.Names.{IsNameAt, IsOnlyName, NoName}
-use Rattle.proof_tree.specs.Terms.{ends_term, IsRaw, AreRaws, Level, flat, places, raised, raised_raw, no_raw, AreHeld, IsAhead, IsBehind, IsReached, AtArgument, AfterArgument, NoTerm, IsRawTerm, IsOnlyTerm}
+use Rattle.proof_tree.specs.Names.{IsOnlyName, NoName}
+use Rattle.proof_tree.specs.Terms.{ends_term, IsRaw, AreRaws, Level, flat, places, raised, raised_raw, no_raw, IsBehind, IsReached, AtArgument, AfterArgument, NoTerm, IsRawTerm}
 use Rattle.proof_tree.proofs.TermSteps.{more_of, opened, constant_step, open_step, comma_step, close_step, stuck_within, stuck_empty, stuck_name, term_ends, term_goes_on, starts_ahead, step}
 use Rattle.proof_tree.proofs.RawTerms.{raws_length, raws_push, flat_append, reverse_cons, IsTop, popped}
 use Rattle.proof_tree.specs.declared.terms.Raw.{Raw}

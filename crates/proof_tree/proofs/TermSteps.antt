@@ -1,9 +1,9 @@
 -- The steps of a term's reading: what may follow behind a step is what may follow before it.
-use Rattle.std.proofs.Common.{◌≡◌, ℕ, zero, suc, ◌+◌, Bool, true, false, true≢false, not, ◌&&◌, ◌||◌, nat_eq, List, [], ◌∷◌, ◌++◌, map, length, refl, sym, ap, ◌∙◌, subst, append_assoc, append-nil, eqb-true, arith}
+use Rattle.std.proofs.Common.{◌≡◌, ℕ, zero, suc, ◌+◌, true, false, true≢false, not, ◌||◌, nat_eq, List, [], ◌∷◌, ◌++◌, map, length, refl, sym, ap, ◌∙◌, subst, append_assoc, append-nil, eqb-true, arith}
 use Rattle.std.proofs.lemmas.Bool.Decides.{nat_tests}
 use Rattle.mg_word.specs.Table.{Symbol, symbol_of}
-use Rattle.mg_word.specs.Facts.{is_symbol, suits}
-use Rattle.mg_word.specs.Spelling.{is_word_byte, symbol_piece, spelled_name, closing, still_open, behind, open_behind, spelled_within, spelled_symbols}
+use Rattle.mg_word.specs.Facts.{suits}
+use Rattle.mg_word.specs.Spelling.{is_word_byte, symbol_piece, spelled_name, closing, still_open, behind, open_behind, spelled_within}
 use Rattle.mg_word.specs.declared.symbol.Kind.{Kind}
 use Rattle.mg_word.specs.declared.symbol.Kind.TheVariants.{Word, Integer, Distinct}
 use Rattle.proof_tree.specs.DocFaults.{are_own_terms}

@@ -1,33 +1,33 @@
 -- The reading of a tree line by line: what was read is its front, and what is left is the rest of each tree that goes on so.
-use Rattle.std.proofs.Common.{◌≡◌, ◌≢◌, ℕ, zero, suc, ◌+◌, ◌-◌, ◌^◌, ◌≤◌, ◌<◌, Bool, true, false, true≢false, not, ◌&&◌, ◌||◌, if◌then◌else◌, nat_eq, List, [], ◌∷◌, ◌++◌, map, length, Option, Some, None, All, refl, sym, ap, ◌∙◌, subst, append_assoc, append-nil, length-append, codes, arith}
+use Rattle.std.proofs.Common.{◌≡◌, ℕ, zero, suc, ◌+◌, ◌-◌, ◌≤◌, ◌<◌, Bool, true, false, true≢false, ◌||◌, if◌then◌else◌, nat_eq, List, [], ◌∷◌, ◌++◌, map, length, Option, Some, None, All, refl, sym, ap, ◌∙◌, subst, append_assoc, append-nil, codes, arith}
 use Rattle.std.specs.List.{list_all, flat_map}
 use Rattle.std.specs.Fmt.{decimal}
 use Rattle.std.proofs.lemmas.Bool.Decides.{nat_tests}
 use Rattle.std.proofs.lemmas.List.{map-append}
-use Rattle.std.proofs.lemmas.List.Elements.{All-head, All-tail, All-cons, All-nil, All-push}
+use Rattle.std.proofs.lemmas.List.Elements.{All-head, All-tail, All-nil, All-push}
 use Rattle.mg_word.specs.Table.{Symbol}
-use Rattle.mg_word.specs.Facts.{ProblemData, is_symbol, is_digit, is_name_byte, suits}
+use Rattle.mg_word.specs.Facts.{ProblemData, is_symbol, is_digit, is_name_byte}
 use Rattle.std.specs.Option.{option_to_list}
 use Rattle.std.proofs.Common.{slice_get}
 use Rattle.mg_word.specs.declared.symbol.Kind.{Kind}
 use Rattle.mg_word.specs.declared.symbol.Kind.TheVariants.{Word, Integer, Distinct}
 use Rattle.proof_tree.proofs.FormLines.{passes_at}
-use Rattle.mg_word.specs.Spelling.{is_lower_word, spelled, spelled_symbols, symbols_at, spelled_within, symbol_piece, spelled_name, behind, open_behind, closing, escaped, quoted, Piece}
+use Rattle.mg_word.specs.Spelling.{is_lower_word, spelled, symbols_at, spelled_within, symbol_piece, spelled_name, behind, open_behind, closing, escaped, quoted}
 use Rattle.mg_word.specs.declared.form.Form.{Form}
 use Rattle.tree_checker.specs.Trees.{Trees, done, tree, preorder, AreTrees, IsTree, conclusions_at}
-use Rattle.tree_checker.specs.Docs.{AreLines, LineFits, IsKnown, IsWordOf}
+use Rattle.tree_checker.specs.Docs.{LineFits, IsKnown}
 use Rattle.tree_checker.specs.declared.doc.TreeLine.{TreeLine}
 use Rattle.tree_checker.specs.declared.doc.TreeLine.TheVariants.{Form as FormLine, Clash, Barred, By}
 use Rattle.tree_checker.specs.declared.doc_fault.DocKind.{DocKind}
 use Rattle.tree_checker.specs.declared.doc_fault.DocKind.TheVariants.{Header, NotBuilt, Syntax, Block, FormNumber, Unknown, Heavy, Order, Early, Rest}
-use Rattle.proof_tree.specs.DocText.{line_text, form_line, listed, after_items, in_brackets, ended, NamesForm}
+use Rattle.proof_tree.specs.DocText.{line_text, listed, after_items, in_brackets, ended, NamesForm}
 use Rattle.proof_tree.specs.DocFaults.{trees_left, AreFirst, is_no_feed, has_no_feed, BeginsWithLine, FaultAt, LineFault, TreeLineFault, Place, at_header, at_root, in_tree}
 use Rattle.proof_tree.specs.Lines.{IsLineOf, IsOnlyLine, IsNoLine, IsTreeText, IsTreeFront, IsTreeFault, TreeFault, NoTree, IsOnlyTree, EndsSo, fault_of}
 use Rattle.proof_tree.specs.declared.lines.TextEnd.{TextEnd}
 use Rattle.proof_tree.specs.declared.lines.TextEnd.TheVariants.{Whole, Unended}
 use Rattle.proof_tree.specs.declared.form_lines.LineFault.{LineFault as Fault}
 use Rattle.proof_tree.specs.declared.form_lines.LineFault.TheVariants.{Wrong, NoMemory}
-use Rattle.proof_tree.proofs.Texts.{both, joined, stops, cut_unique, heads, tails, all_weaker}
+use Rattle.proof_tree.proofs.Texts.{both, joined, cut_unique, tails, all_weaker}
 use Rattle.proof_tree.proofs.Decimals.{decimal_digits}
 use Rattle.proof_tree.proofs.LookUps.{name_bytes}
 

@@ -1,5 +1,5 @@
 -- What is found of the terms of a list, term by term.
-use Rattle.std.proofs.Common.{◌≡◌, ℕ, zero, suc, ◌+◌, ◌≤◌, ◌<◌, Bool, true, false, true≢false, not, ◌||◌, List, [], ◌∷◌, ◌++◌, length, take, slice_index_or, slice_get, Some, All, Any, MatchBool, refl, sym, ap, ◌∙◌, subst, length-append, arith, nat_lt, nat_le, leb, if◌then◌else◌}
+use Rattle.std.proofs.Common.{◌≡◌, ℕ, zero, suc, ◌+◌, ◌≤◌, ◌<◌, Bool, true, false, true≢false, not, ◌||◌, List, [], ◌∷◌, ◌++◌, length, take, slice_index_or, slice_get, Some, All, Any, MatchBool, refl, sym, ◌∙◌, subst, length-append, arith, nat_lt, if◌then◌else◌}
 use Rattle.std.proofs.lemmas.List.{take_more, take_all, get_or_append_left}
 use Rattle.std.proofs.lemmas.List.Elements.{All-push, All-more, All-nil}
 use Rattle.std.proofs.lemmas.List.Quantifiers.{Any-push}
@@ -8,7 +8,7 @@ use Rattle.mg_word.specs.Table.{Symbol, symbol_of}
 use Rattle.mg_word.specs.declared.symbol.Kind.TheVariants.{Word}
 use Rattle.tree_checker.specs.Docs.{most_symbols}
 use Rattle.proof_tree.specs.DocFaults.{IsSymbolOf, HasUnknown, AllKnown, IsHeavy}
-use Rattle.proof_tree.specs.Terms.{IsRaw, AreRaws, no_raw}
+use Rattle.proof_tree.specs.Terms.{IsRaw, AreRaws}
 use Rattle.proof_tree.specs.Lists.{AreNumbers, AreWords, IsLight, IsVerdict}
 use Rattle.proof_tree.proofs.RawTerms.{raws_length}
 use Rattle.proof_tree.specs.declared.terms.Raw.{Raw}

@@ -1,5 +1,5 @@
 -- The first fault of a text that is no document: what stands before it, and what is wrong with its line.
-use Rattle.std.specs.Prelude.{◌≡◌, ◌≢◌, ℕ, zero, suc, ◌+◌, ◌<◌, ◌^◌, Bool, true, false, not, ◌&&◌, nat_eq, List, [], ◌∷◌, ◌++◌, map, length, codes, All, Any, Contains, Option, Some, None, IsSome, if◌then◌else◌}
+use Rattle.std.specs.Prelude.{◌≡◌, ◌≢◌, ℕ, zero, suc, ◌+◌, ◌<◌, ◌^◌, Bool, true, false, not, ◌&&◌, nat_eq, List, [], ◌∷◌, ◌++◌, map, length, codes, All, Any, Contains, Option, Some, None, IsSome}
 use Rattle.std.specs.List.{list_all, list_any}
 use Rattle.mg_word.specs.Table.{Symbol}
 use Rattle.mg_word.specs.Words.{numbered}
@@ -10,7 +10,7 @@ use Rattle.tree_checker.specs.Trees.{conclusions_at}
 use Rattle.tree_checker.specs.Docs.{LineFits, IsKnown, most_symbols}
 use Rattle.tree_checker.specs.declared.doc.TreeLine.{TreeLine}
 use Rattle.tree_checker.specs.declared.doc_fault.DocKind.{DocKind}
-use Rattle.tree_checker.specs.declared.doc_fault.DocKind.TheVariants.{Header, NotBuilt, Syntax, Block, FormNumber, Unknown, Heavy, Order, Early, Rest}
+use Rattle.tree_checker.specs.declared.doc_fault.DocKind.TheVariants.{Header, NotBuilt, Syntax, FormNumber, Unknown, Heavy, Early, Rest}
 use Rattle.tree_checker.specs.declared.doc_fault.DocFault.{DocFault}
 use Rattle.tree_checker.specs.declared.doc_fault.DocFault.TheVariants.{Line, NoMemory}
 use Rattle.proof_tree.specs.DocText.{form_line, line_text, header, root_word, ended, bare, NamesForm}

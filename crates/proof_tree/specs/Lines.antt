@@ -1,12 +1,11 @@
 -- What the reading of lines answers, and the state of a tree's reading. No public clause cites this module.
 use Rattle.std.specs.Prelude.{◌≡◌, ◌≢◌, ℕ, ◌+◌, ◌<◌, ◌≤◌, ◌^◌, Bool, true, false, List, [], ◌∷◌, ◌++◌, map, length, codes, All}
 use Rattle.std.specs.Fmt.{decimal}
-use Rattle.mg_word.specs.Table.{Symbol}
 use Rattle.mg_word.specs.Facts.{ProblemData}
 use Rattle.tree_checker.specs.Docs.{LineFits, IsKnown, AreLines}
 use Rattle.tree_checker.specs.declared.doc.TreeLine.{TreeLine}
 use Rattle.tree_checker.specs.declared.doc_fault.DocKind.{DocKind}
-use Rattle.tree_checker.specs.declared.doc_fault.DocKind.TheVariants.{Header, NotBuilt, Syntax, Block, FormNumber, Unknown, Heavy, Order, Early, Rest}
+use Rattle.tree_checker.specs.declared.doc_fault.DocKind.TheVariants.{FormNumber, Unknown, Heavy}
 use Rattle.tree_checker.specs.declared.doc_fault.DocFault.{DocFault}
 use Rattle.tree_checker.specs.declared.doc_fault.DocFault.TheVariants.{Line, NoMemory as OutOfMemory}
 use Rattle.tree_checker.specs.declared.doc.Doc.{Doc}

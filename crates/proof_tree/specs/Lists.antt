@@ -1,5 +1,5 @@
 -- Lists of terms behind an opening bracket, and the state of their reading. No public clause cites this module.
-use Rattle.std.specs.Prelude.{◌≡◌, ℕ, ◌≤◌, Bool, true, false, List, [], ◌∷◌, ◌++◌, map, length, slice_get, Some, All, Any, MatchBool}
+use Rattle.std.specs.Prelude.{◌≡◌, ℕ, ◌≤◌, Bool, false, List, [], ◌∷◌, ◌++◌, map, length, slice_get, Some, All, Any, MatchBool}
 use Rattle.mg_word.specs.Table.{Symbol}
 use Rattle.mg_word.specs.Spelling.{spelled_symbols}
 use Rattle.tree_checker.specs.Docs.{most_symbols}

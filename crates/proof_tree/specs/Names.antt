@@ -1,5 +1,5 @@
 -- Names at the front of a text. No public clause cites this module.
-use Rattle.std.specs.Prelude.{◌≡◌, ℕ, Bool, true, false, not, ◌&&◌, ◌||◌, nat_eq, List, [], ◌∷◌, ◌++◌, if◌then◌else◌}
+use Rattle.std.specs.Prelude.{◌≡◌, ℕ, Bool, true, false, not, nat_eq, List, [], ◌∷◌, ◌++◌, if◌then◌else◌}
 use Rattle.std.specs.List.{flat_map, list_all}
 use Rattle.mg_word.specs.Facts.{suits, is_name_byte, is_digit}
 use Rattle.mg_word.specs.Spelling.{is_word_byte, escaped, spelled_name}

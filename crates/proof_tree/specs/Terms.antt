@@ -1,5 +1,5 @@
 -- Terms at the front of a text, and the state of their reading. No public clause cites this module.
-use Rattle.std.specs.Prelude.{◌≡◌, ℕ, zero, suc, ◌+◌, ◌-◌, ◌^◌, min, Bool, true, false, not, ◌&&◌, ◌||◌, nat_eq, List, [], ◌∷◌, ◌++◌, map, length, drop, reverse}
+use Rattle.std.specs.Prelude.{◌≡◌, ℕ, suc, ◌+◌, ◌-◌, ◌^◌, min, Bool, true, ◌||◌, nat_eq, List, [], ◌∷◌, ◌++◌, map, length, drop, reverse}
 use Rattle.mg_word.specs.Table.{Symbol}
 use Rattle.mg_word.specs.Spelling.{symbol_piece, closing, still_open, spelled_within, spelled_symbols}
 use Rattle.proof_tree.specs.DocFaults.{are_own_terms}

@@ -1,4 +1,4 @@
-use Rattle.std.proofs.Common.{◌≡◌, ◌≢◌, true, AllPairs, length, sym, ap, ◌∙◌, refl, subst, rules, arith}
+use Rattle.std.proofs.Common.{◌≡◌, ◌≢◌, true, AllPairs, length, sym, ap, ◌∙◌, subst}
 use Rattle.std.specs.List.{list_all}
 use Rattle.mg_word.specs.Facts.{is_symbol}
 use Rattle.proof_tree.specs.Lists.{IsListRead}

@@ -1,4 +1,4 @@
-use Rattle.std.proofs.Common.{◌≡◌, ◌+◌, ◌<◌, [], ◌∷◌, length-drop, ◌++◌, length, take, drop, sym, ap, ◌∙◌, refl, subst, rules, arith}
+use Rattle.std.proofs.Common.{◌+◌, [], ◌∷◌, length-drop, ◌++◌, length, take, drop, sym, ap, ◌∙◌, subst, arith}
 use Rattle.std.proofs.lemmas.List.{drop-drop}
 use Rattle.proof_tree.specs.DocText.{bare}
 use Rattle.proof_tree.specs.DocFaults.{is_no_feed, BeginsWithLine, begins_with}

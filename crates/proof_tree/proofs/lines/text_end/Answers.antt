@@ -1,4 +1,4 @@
-use Rattle.std.proofs.Common.{◌≡◌, ◌==◌, length, sym, ap, ◌∙◌, refl, rules, arith, eq-eqb, true≢false}
+use Rattle.std.proofs.Common.{length, sym, ◌∙◌, eq-eqb, true≢false}
 use Rattle.proof_tree.proofs.BareLines.{end_passed, end_kept}
 use Rattle.proof_tree.proofs.lines.text_end.Goals as goal
 

@@ -1,4 +1,4 @@
-use Rattle.std.proofs.Common.{◌≡◌, length, nat_lt, sym, ap, ◌∙◌, refl, rules, arith}
+use Rattle.std.proofs.Common.{◌≡◌, length, nat_lt, ap, ◌∙◌, arith}
 use Rattle.proof_tree.proofs.RawTerms.{raws_length}
 use Rattle.proof_tree.proofs.Verdicts.{verdict_refused, verdict_taken, found_known}
 use Rattle.proof_tree.proofs.lists.add_term.Goals as goal

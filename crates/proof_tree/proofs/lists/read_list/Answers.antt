@@ -1,4 +1,4 @@
-use Rattle.std.proofs.Common.{◌≡◌, ◌∷◌, ◌++◌, [], length, drop, true, true≢false, sym, ap, ◌∙◌, refl, rules, arith}
+use Rattle.std.proofs.Common.{◌≡◌, ◌∷◌, ◌++◌, [], drop, true≢false, sym, ap, ◌∙◌}
 use Rattle.proof_tree.specs.DocFaults.{begins_with}
 use Rattle.proof_tree.proofs.Cuts.{begins_split}
 use Rattle.proof_tree.proofs.Listing.{listing_starts, listing_missing, listing_wrong, listing_more, listing_ends, only_none}

@@ -1,4 +1,4 @@
-use Rattle.std.proofs.Common.{◌≡◌, sym, ◌∙◌, refl}
+use Rattle.std.proofs.Common.{sym}
 use Rattle.proof_tree.proofs.Cuts.{lower_word_tested}
 use Rattle.proof_tree.proofs.names.is_lower_word.Goals as goal
 

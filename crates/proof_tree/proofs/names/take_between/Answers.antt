@@ -1,6 +1,6 @@
-use Rattle.std.proofs.Common.{◌≡◌, ◌&&◌, nat_eq, sym, ap, ◌∙◌, refl, drop, subst}
+use Rattle.std.proofs.Common.{◌&&◌, nat_eq, sym, ap, ◌∙◌, drop, subst}
 use Rattle.mg_word.specs.Spelling.{is_lower_word}
-use Rattle.proof_tree.specs.Names.{IsOnlyName, IsOnlyQuoted, NoName, quoted_kind}
+use Rattle.proof_tree.specs.Names.{IsOnlyName, NoName, quoted_kind}
 use Rattle.proof_tree.proofs.NameShapes.{between_taken, between_none, between_goes_on, between_bare}
 use Rattle.proof_tree.proofs.names.take_between.Goals as goal
 

@@ -1,4 +1,4 @@
-use Rattle.std.proofs.Common.{◌≡◌, ◌++◌, false, sym, ap, ◌∙◌, refl, take, drop}
+use Rattle.std.proofs.Common.{◌≡◌, ◌++◌, false, sym, ap, ◌∙◌, take, drop}
 use Rattle.proof_tree.proofs.Texts.{cut_at}
 use Rattle.proof_tree.proofs.NameShapes.{integer_taken, integer_not_plain, integer_goes_on}
 use Rattle.proof_tree.specs.Names.{ends_name}

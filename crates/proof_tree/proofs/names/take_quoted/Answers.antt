@@ -1,6 +1,6 @@
-use Rattle.std.proofs.Common.{◌≡◌, ◌∷◌, sym, ◌∙◌, refl}
+use Rattle.std.proofs.Common.{◌≡◌, ◌∷◌}
 use Rattle.proof_tree.proofs.Texts.{first_and_rest}
-use Rattle.proof_tree.proofs.Quotes.{unquoting_begins, unquoting_more, unquoting_ends, unquoting_stops}
+use Rattle.proof_tree.proofs.Quotes.{unquoting_more, unquoting_ends, unquoting_stops}
 use Rattle.proof_tree.proofs.names.take_quoted.Goals as goal
 
 pub returns-then-first-quote : goal.returns-then-first-quote

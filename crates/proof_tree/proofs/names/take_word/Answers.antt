@@ -1,4 +1,4 @@
-use Rattle.std.proofs.Common.{◌≡◌, ◌++◌, sym, ap, ◌∙◌, refl, take}
+use Rattle.std.proofs.Common.{◌≡◌, ◌++◌, ap, ◌∙◌, take}
 use Rattle.proof_tree.proofs.Texts.{cut_at}
 use Rattle.proof_tree.proofs.NameShapes.{word_taken}
 use Rattle.mg_word.specs.Spelling.{is_word_byte}

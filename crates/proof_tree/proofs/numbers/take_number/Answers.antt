@@ -1,4 +1,3 @@
-use Rattle.std.proofs.Common.{◌≡◌, sym, ap, ◌∙◌, refl, rules, arith}
 use Rattle.mg_word.specs.Facts.{is_digit}
 use Rattle.proof_tree.proofs.Texts.{cut_at}
 use Rattle.proof_tree.proofs.Decimals.{number_taken, number_missing}

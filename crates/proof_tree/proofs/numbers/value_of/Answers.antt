@@ -1,4 +1,4 @@
-use Rattle.std.proofs.Common.{◌≡◌, ◌≢◌, true≢false, eq-eqb, ◌+◌, ◌-◌, ◌*◌, length, take, slice_index_or, sym, ap, ◌∙◌, refl, subst, arith, eqb-true}
+use Rattle.std.proofs.Common.{◌≢◌, true≢false, eq-eqb, ◌+◌, ◌*◌, length, take, sym, ap, ◌∙◌, arith, eqb-true}
 use Rattle.std.proofs.lemmas.List.{take_all}
 use Rattle.std.specs.Fmt.{decimal}
 use Rattle.std.specs.Str.Parse.{digits_value}

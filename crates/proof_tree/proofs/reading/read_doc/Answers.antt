@@ -1,6 +1,5 @@
-use Rattle.std.proofs.Common.{◌≡◌, ◌<◌, ◌^◌, ◌+◌, ◌∷◌, [], length, sym, ap, ◌∙◌, refl, subst, rules, arith}
-use Rattle.proof_tree.specs.DocText.{bare, IsDocText}
-use Rattle.tree_checker.specs.declared.doc.Doc.{Doc}
+use Rattle.std.proofs.Common.{◌<◌, ◌^◌, ◌+◌, length, arith}
+use Rattle.proof_tree.specs.DocText.{bare}
 use Rattle.proof_tree.proofs.Documents.{doc_is, doc_only, tree_fault, tree_excluded}
 use Rattle.proof_tree.proofs.reading.read_doc.Goals as goal
 

@@ -1,10 +1,9 @@
-use Rattle.std.proofs.Common.{◌≡◌, ◌+◌, ◌-◌, ◌++◌, ◌∷◌, [], suc, sym, ap, ◌∙◌, refl, subst, true, length, rules, arith, length-append}
+use Rattle.std.proofs.Common.{◌≡◌, ◌+◌, ◌-◌, ◌++◌, ◌∷◌, [], ap, subst, true, length, arith, length-append}
 use Rattle.std.specs.List.{list_all}
 use Rattle.mg_word.specs.Facts.{is_symbol}
 use Rattle.proof_tree.specs.DocText.{bare}
-use Rattle.proof_tree.specs.Lines.{IsTreeFront, IsTreeFault, NoTree, TreeFault}
+use Rattle.proof_tree.specs.Lines.{IsTreeFront}
 use Rattle.tree_checker.specs.Trees.{conclusions_at}
-use Rattle.tree_checker.specs.declared.doc_fault.DocKind.TheVariants.{Early}
 use Rattle.proof_tree.proofs.TreeFronts.{front_starts, front_more, front_early, front_ends, front_goes_on, front_one, front_none, line_fault, fault_some, ends_no_feed}
 use Rattle.proof_tree.proofs.reading.read_tree.Goals as goal
 

@@ -1,6 +1,5 @@
-use Rattle.std.proofs.Common.{◌≡◌, sym, ap, ◌∙◌, refl, rules, arith}
 use Rattle.proof_tree.specs.DocText.{bare}
-use Rattle.proof_tree.proofs.Documents.{header_fault, root_fault, doc_is, doc_only, tree_fault, tree_excluded}
+use Rattle.proof_tree.proofs.Documents.{header_fault, root_fault}
 use Rattle.proof_tree.proofs.reading.tree_part.Goals as goal
 
 pub returns-in-Err-clause-read : goal.returns-in-Err-clause-read

@@ -1,4 +1,4 @@
-use Rattle.std.proofs.Common.{sym, ◌∙◌}
+use Rattle.std.proofs.Common.{◌∙◌}
 use Rattle.proof_tree.proofs.Cuts.{starts_is}
 use Rattle.proof_tree.proofs.slices.starts.Goals as goal
 

@@ -1,6 +1,6 @@
-use Rattle.std.proofs.Common.{◌≡◌, ◌+◌, ◌∷◌, drop, refl, sym, ap, ◌∙◌, subst, rules, arith}
+use Rattle.std.proofs.Common.{◌≡◌, ◌+◌, ◌∷◌, drop, sym, ap, ◌∙◌, arith}
 use Rattle.std.proofs.lemmas.List.{drop_more, drop_all, nil_from_length}
-use Rattle.proof_tree.specs.Terms.{AtArgument, AfterArgument, ends_term}
+use Rattle.proof_tree.specs.Terms.{ends_term}
 use Rattle.proof_tree.proofs.TermReading.{close_index, close_empty, close_other, close_comma, close_bracket, close_all, close_wrong}
 use Rattle.proof_tree.proofs.terms.close.Goals as goal
 

@@ -1,4 +1,4 @@
-use Rattle.std.proofs.Common.{length, drop, ◌≤◌, ◌-◌}
+use Rattle.std.proofs.Common.{length, drop, ◌≤◌}
 use Rattle.proof_tree.specs.Terms.{AfterArgument}
 use Rattle.proof_tree.proofs.terms.close.Given as goal
 

@@ -1,7 +1,5 @@
-use Rattle.std.proofs.Common.{◌≡◌, ◌+◌, ◌-◌, [], ◌∷◌, ◌++◌, length, drop, sym, ap, ◌∙◌, refl, subst, arith, length-drop}
-use Rattle.std.proofs.lemmas.List.{drop-drop}
+use Rattle.std.proofs.Common.{◌≡◌, ◌-◌, [], ◌∷◌, ◌++◌, length, drop, ap, ◌∙◌, arith, length-drop}
 use Rattle.mg_word.specs.Spelling.{spelled_name}
-use Rattle.proof_tree.specs.Terms.{AtArgument, AfterArgument}
 use Rattle.proof_tree.proofs.RawTerms.{suffix_at, suffix_length}
 use Rattle.proof_tree.proofs.TermReading.{argument_starts, argument_missing, constant_read, bracket_read, behind_bracket}
 use Rattle.proof_tree.proofs.terms.take_term.Goals as goal
