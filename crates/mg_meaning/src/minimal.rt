@@ -68,7 +68,6 @@ fn is_proper(part: &[Lit], set: &[Lit]) -> bool
 
 // Whether the part is a proper one that satisfies the problem.
 fn is_smaller(alloc: Global, problem: &Problem, part: &[Lit], set: &[Lit]) -> Result<bool, NoMemory>
-    requires { length problem.now.forms < 2 ^ 32 }
     ensures { IfOk result (λ answer. IsTrue answer ↔ IsSmaller problem.now set.now part.now) }
 {
     if !is_proper(part, set) {
@@ -84,7 +83,6 @@ fn has_smaller(
     parts: &[Items<Lit>],
     set: &[Lit],
 ) -> Result<bool, NoMemory>
-    requires { length problem.now.forms < 2 ^ 32 }
     ensures found { IfOk result (λ answer. IsTrue answer → (part : _) × IsSmaller problem.now set.now part) }
     ensures none { IfOk result (λ answer. answer ≡ false → All (λ part. ¬ IsSmaller problem.now set.now part) parts.now) }
 {
@@ -98,7 +96,6 @@ fn has_smaller(
 
 /// Whether the set satisfies the problem and no proper part of it does. The numbers of forms fit 32 bits.
 pub fn is_minimal(alloc: Global, problem: &Problem, set: &[Lit]) -> Result<bool, NoMemory>
-    requires { length problem.now.forms < 2 ^ 32 }
     ensures { IfOk result (λ answer. IsTrue answer ↔ IsMinimal set.now problem.now) }
 {
     if !satisfies(alloc, problem, set)? {
