@@ -2,6 +2,7 @@ pub mod Drafting
 pub mod Numbering
 pub mod Taking
 pub mod Ends
+pub mod TextKinds
 pub mod Going
 pub mod Reaching
 pub mod Tries

@@ -109,7 +109,7 @@ module _ (told : Option Table) (root : Option (List ℕ)) (name : List ℕ) (sel
   pub fault_met : (kind : ReadKind) (line column : ℕ) → Advances selections kept file (Fault kind line column) after next → reading_of reached.world root name ≡ fault_at kind next.name line column
   fault_met kind line column goes =
       reached.reading reached.world (same_itself (next_read kept) reached.world)
-      ∙ ap (λ r. and_then r (λ later. resume reached.world root (drop 1 selections) later outer)) (goes.1 (λ asked early. include_in reached.world root (levels_in outer) (source_in selections file) asked early)) ∙ ap (λ n. fault_at kind n line column) (sym goes.0.0)
+      ∙ ap (λ r. and_then r (λ later. resume reached.world root (drop 1 selections) later outer)) (goes.2 (λ asked early. include_in reached.world root (levels_in outer) (source_in selections file) asked early)) ∙ ap (λ n. fault_at kind n line column) (sym goes.0.0)
 
   module _ (asked : Asked) (goes : Advances selections kept file (Include asked) after next) (stays : Stays kept after) where
     -- how the reading goes on at an include
