@@ -9,3 +9,4 @@ pub mod Entered
 pub mod Answering
 pub mod Checking
 pub mod OneReading
+pub mod Selecting
