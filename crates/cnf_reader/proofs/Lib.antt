@@ -10,3 +10,4 @@ pub mod Entered
 pub mod Answering
 pub mod Checking
 pub mod OneReading
+pub mod Selecting
