@@ -1,5 +1,5 @@
 -- How the reading of a file goes on behind one token.
-use Rattle.std.proofs.Common.{◌≡◌, ℕ, ◌+◌, ◌≤◌, Bool, true, false, true≢false, List, [], ◌∷◌, drop, take, length, Option, Some, None, Result, Ok, Err, refl, sym, ap, ◌∙◌, arith, subst, slice_range}
+use Rattle.std.proofs.Common.{◌≡◌, ℕ, true, List, [], ◌∷◌, drop, Option, Some, None, Result, Ok, Err, refl, sym, ap, ◌∙◌, subst}
 use Rattle.mg_word.specs.declared.clause.Name.{Name}
 use Rattle.tptp_lexer.specs.Tokens.{Lexed, first_of, first_by, rest_of}
 use Rattle.tptp_lexer.specs.declared.token.Token.{Token}
@@ -7,20 +7,18 @@ use Rattle.tptp_lexer.specs.declared.token.LexFault.{LexFault}
 use Rattle.cnf_grammar.specs.declared.mode.Mode.{Mode}
 use Rattle.cnf_grammar.specs.declared.mode.Mode.TheVariants.{ClauseClosed, IncludeClosed}
 use Rattle.cnf_grammar.specs.declared.place.Place.{Place}
-use Rattle.cnf_grammar.specs.Table.{is_end}
 use Rattle.cnf_reader.specs.declared.fault.ReadKind.{ReadKind}
-use Rattle.cnf_reader.specs.declared.fault.ReadKind.TheVariants.{Lex, Expected}
+use Rattle.cnf_reader.specs.declared.fault.ReadKind.TheVariants.{Lex}
 use Rattle.cnf_reader.specs.declared.fault.ReadFault.{ReadFault}
-use Rattle.cnf_reader.specs.declared.pending.Asked.{Asked}
 use Rattle.cnf_reader.specs.declared.pending.Pending.{Pending}
 use Rattle.cnf_reader.specs.declared.kept.Kept.{Kept}
 use Rattle.cnf_reader.specs.declared.part.Part.{Part}
 use Rattle.cnf_reader.specs.declared.part.Part.TheVariants.{Ended, Clause, Include, Fault}
-use Rattle.cnf_reader.specs.Statements.{fresh, take as take_token, Takes}
+use Rattle.cnf_reader.specs.Statements.{take as take_token, Takes}
 use Rattle.cnf_reader.specs.Keeping.{keep, is_full}
-use Rattle.cnf_reader.specs.Reading.{Source, read_tokens, go_on, behind, at_end, and_then, fault_at, shape_in}
+use Rattle.cnf_reader.specs.Reading.{Source, read_tokens, go_on, behind, at_end, fault_at, shape_in}
 use Rattle.cnf_reader.proofs.TextKinds.{text_kind}
-use Rattle.cnf_reader.specs.Parts.{is_of_text, Lower, reads_on, source_named, IsOpen, PartIs, IsEnd, EndIs}
+use Rattle.cnf_reader.specs.Parts.{is_of_text, Lower, reads_on, source_named, IsOpen, PartIs, IsEnd}
 
 -- what a token that is taken, or not, makes of the statement
 pub is_taken : (taken : Result Pending ReadKind) (new : Pending) → Takes taken None new → taken ≡ Ok new

@@ -1,16 +1,16 @@
 -- The faults that stand at tokens are none of a file's opening.
-use Rattle.std.proofs.Common.{◌≡◌, ℕ, Bool, true, false, true≢false, List, Option, Some, None, Result, Ok, Err, refl, sym, ap, ◌∙◌, subst, if◌then◌else◌, ◌==◌, ◌&&◌, nat_le, length}
+use Rattle.std.proofs.Common.{◌≡◌, ℕ, Bool, true, false, List, Option, Some, None, refl, sym, subst, if◌then◌else◌, ◌==◌, ◌&&◌, nat_le, length}
 use Rattle.mg_word.specs.declared.clause.Name.{Name}
 use Rattle.cnf_grammar.specs.declared.mode.Mode.{Mode}
-use Rattle.cnf_grammar.specs.declared.mode.Mode.TheVariants.{Statement, NameStart, RoleStart, FormulaStart, LiteralStart, AtomStart, WordRead, TermStart, TermRead, Info}
+use Rattle.cnf_grammar.specs.declared.mode.Mode.TheVariants.{Statement, NameStart, RoleStart, FormulaStart, LiteralStart, AtomStart, WordRead, TermStart, TermRead}
 use Rattle.cnf_grammar.specs.declared.place.Place.{Place}
-use Rattle.cnf_grammar.specs.Shapes.{Shape, Lower, Upper, Quoted, Distinct, Dollar, Number as Numeral, NotEqual, Punct}
+use Rattle.cnf_grammar.specs.Shapes.{Shape, Lower, Upper, Distinct, Dollar, Number as Numeral, NotEqual, Punct}
 use Rattle.cnf_grammar.specs.Table.{step}
 use Rattle.cnf_grammar.specs.Draft.{Draft}
 use Rattle.cnf_reader.specs.declared.fault.ReadKind.{ReadKind}
 use Rattle.cnf_reader.specs.declared.fault.ReadKind.TheVariants.{Expected, Role, NotCnf, Equality, BadConclude, TooManyClauses, TooManyLiterals, TooManyVariables, TooDeep}
 use Rattle.cnf_reader.specs.declared.pending.Pending.{Pending}
-use Rattle.cnf_reader.specs.Faults.{refusal, no_statement, no_atom, no_term, no_follower, is_other_language, limit_fault, name_fault, role_fault, variable_fault, lacks_room, is_role, is_too_deep, is_selected, name_of}
+use Rattle.cnf_reader.specs.Faults.{refusal, no_statement, no_atom, no_term, no_follower, is_other_language, limit_fault, role_fault, variable_fault, lacks_room, is_role, is_too_deep, is_selected, name_of}
 use Rattle.cnf_reader.specs.Statements.{take, taken, fault_here, fault_before, breaks_item, Takes}
 use Rattle.cnf_reader.specs.Parts.{is_of_text}
 

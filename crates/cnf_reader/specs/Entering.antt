@@ -1,6 +1,5 @@
 -- How files are opened and taken in. No public clause cites this module.
-use Rattle.std.specs.Prelude.{◌≡◌, ℕ, zero, suc, ◌+◌, ◌-◌, ◌<◌, ◌≤◌, Bool, false, nat_le, List, [], ◌∷◌, ◌++◌, length, Option, Some, None, Result, Ok, Err}
-use Rattle.mg_word.specs.declared.clause.Name.{Name}
+use Rattle.std.specs.Prelude.{◌≡◌, ℕ, ◌≤◌, Bool, false, List, [], ◌∷◌, length, Option, Err}
 use Rattle.mg_outside.specs.Reading.{Table}
 use Rattle.tptp_lexer.specs.Tokens.{start_cursor}
 use Rattle.cnf_grammar.specs.Table.{start}
@@ -10,9 +9,9 @@ use Rattle.cnf_reader.specs.declared.fault.ReadKind.{ReadKind}
 use Rattle.cnf_reader.specs.declared.fault.ReadKind.TheVariants.{Files}
 use Rattle.cnf_reader.specs.declared.kept.Kept.{Kept}
 use Rattle.cnf_reader.specs.declared.pending.Asked.{Asked}
-use Rattle.cnf_reader.specs.Reading.{World, with_file, with_include, fault_at, Counts, HasRisen, most_bytes, opened, open_first, read_opened, read_source, include_in, source_of, most_levels}
+use Rattle.cnf_reader.specs.Reading.{World, with_file, Counts, HasRisen, most_bytes, opened, open_first, read_opened}
 use Rattle.cnf_reader.specs.Openings.{Finding, FindsTwo}
-use Rattle.cnf_reader.specs.Frames.{FileData, Enters, Refuses, rest_of, source_in}
+use Rattle.cnf_reader.specs.Frames.{FileData, Refuses}
 
 -- the fault of that kind there, or want of memory
 abbrev pub FaultIs : ReadKind → List ℕ → ℕ → ℕ → List ℕ → ReadFault → Type 0

@@ -1,5 +1,5 @@
 -- Files that are open, and what is still to be read of them. No public clause cites this module.
-use Rattle.std.specs.Prelude.{◌≡◌, false, true, ℕ, zero, suc, ◌+◌, ◌-◌, ◌*◌, ◌<◌, ◌≤◌, List, [], ◌∷◌, length, drop, Option, Some, None, Result, Ok, Err}
+use Rattle.std.specs.Prelude.{◌≡◌, false, true, ℕ, suc, ◌+◌, ◌-◌, ◌*◌, ◌<◌, ◌≤◌, List, [], ◌∷◌, length, drop, Option, Result, Ok, Err}
 use Rattle.mg_word.specs.declared.clause.Name.{Name}
 use Rattle.mg_outside.specs.Reading.{Table}
 use Rattle.tptp_lexer.specs.Tokens.{left_of, IsAt}
@@ -12,7 +12,7 @@ use Rattle.cnf_reader.specs.declared.files.Step.{Step}
 use Rattle.cnf_reader.specs.declared.files.Step.TheVariants.{Ended, Clause, Include, Fault}
 use Rattle.cnf_reader.specs.declared.files.OpenFile.TheInside.{Inside}
 use Rattle.cnf_reader.specs.Statements.{fresh}
-use Rattle.cnf_reader.specs.Reading.{Source, World, read_tokens, and_then, fault_at, include_in, reading_of, NeverFails, AreTold}
+use Rattle.cnf_reader.specs.Reading.{Source, World, and_then, fault_at, include_in, reading_of, NeverFails, AreTold}
 use Rattle.cnf_reader.specs.Openings.{Finding, FindsTwo}
 use Rattle.cnf_reader.specs.Parts.{is_of_text, Lower, reads_on, source_named, IsOpen}
 

@@ -1,4 +1,4 @@
-use Rattle.std.proofs.Common.{◌≡◌, ◌∙◌, sym}
+use Rattle.std.proofs.Common.{◌∙◌}
 use Rattle.cnf_reader.proofs.Selecting.{looked_up}
 use Rattle.cnf_reader.proofs.selections.Selected.has.Goals as goal
 
