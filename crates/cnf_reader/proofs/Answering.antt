@@ -1,26 +1,23 @@
 -- What was met when the reading ends: an input, or a fault with its cause.
-use Rattle.std.proofs.Common.{◌≡◌, ℕ, zero, suc, ◌+◌, ◌≤◌, Bool, true, false, true≢false, List, [], ◌∷◌, Option, Some, None, Result, Ok, Err, refl, sym, ap, ◌∙◌, arith, subst, length}
-use Rattle.mg_outside.specs.Causes.{Rose}
+use Rattle.std.proofs.Common.{◌≡◌, ℕ, ◌+◌, ◌≤◌, Bool, true, false, true≢false, List, [], ◌∷◌, Option, Some, None, Result, Ok, Err, refl, sym, ap, ◌∙◌, arith, subst, length}
 use Rattle.mg_outside.specs.Reading.{Table}
 use Rattle.mg_word.specs.declared.clause.Name.{Name}
-use Rattle.tptp_lexer.specs.declared.token.LexKind.{LexKind}
 use Rattle.cnf_reader.specs.declared.fault.ReadFault.{ReadFault}
 use Rattle.cnf_reader.specs.declared.fault.ReadFault.TheVariants.{At, NoMemory}
 use Rattle.cnf_reader.specs.declared.fault.ReadKind.{ReadKind}
-use Rattle.cnf_reader.specs.declared.fault.ReadKind.TheVariants.{Lex, Expected, Role, NotCnf, Equality, Number, Defined, BadConclude, IncludeAbsent, IncludeDepth, TooManyIncludes, TooLong, TooManyClauses, TooManyLiterals, TooManyVariables, TooDeep, ProblemAbsent, Files}
+use Rattle.cnf_reader.specs.declared.fault.ReadKind.TheVariants.{IncludeAbsent, TooLong, ProblemAbsent, Files}
 use Rattle.cnf_reader.specs.declared.kept.Kept.{Kept}
 use Rattle.cnf_reader.specs.declared.pending.Asked.{Asked}
-use Rattle.cnf_reader.specs.declared.files.Step.TheVariants.{Ended, Clause, Include, Fault}
+use Rattle.cnf_reader.specs.declared.files.Step.TheVariants.{Include, Fault}
 use Rattle.cnf_grammar.specs.Table.{start}
 use Rattle.cnf_reader.specs.Statements.{fresh}
-use Rattle.cnf_reader.specs.Reading.{World, AreTold, NeverFails, reading_of, read_opened, read_source, source_of, include_in, open_first, opened, Opening, and_then, most_bytes, most_levels, with_file, nothing_kept, Counts, HasRisen, StandsBy, StandsFirst, FailsFirst, IsFault, read_tokens}
-use Rattle.cnf_reader.specs.Openings.{Finding, FindsTwo}
-use Rattle.cnf_reader.specs.Parts.{Stays}
-use Rattle.cnf_reader.specs.Frames.{FileData, Advances, Reached, Refuses, resume, rest_of, source_in, levels_in, SameBelow, ReadsKept}
-use Rattle.cnf_reader.specs.Entering.{IsWhole, RefusesBy, IsNotEntered, IsBegun, BeginsNotBy, IsNotBegun, new_file, is_of_text, IsTextFault}
+use Rattle.cnf_reader.specs.Reading.{World, AreTold, NeverFails, reading_of, read_opened, source_of, include_in, and_then, most_levels, with_file, nothing_kept, Counts, HasRisen, StandsBy, StandsFirst, IsFault, read_tokens}
+use Rattle.cnf_reader.specs.Parts.{Stays, is_of_text}
+use Rattle.cnf_reader.specs.Frames.{FileData, Advances, Reached, SameBelow, ReadsKept}
+use Rattle.cnf_reader.specs.Entering.{IsWhole, IsNotEntered, IsBegun, IsNotBegun, FaultIs}
 use Rattle.cnf_reader.proofs.Entered.{all_left}
 use Rattle.cnf_reader.proofs.Tries.{rose_later}
-use Rattle.cnf_reader.proofs.Reaching.{fault_met, include_refused, with_reads, with_told, with_whole, before_reads, at_reads, same_itself}
+use Rattle.cnf_reader.proofs.Reaching.{fault_met, include_refused, with_reads, with_told, with_whole, at_reads, same_itself}
 
 -- counts only rise
 pub record Later (start before : Counts) : Type 0 where
@@ -50,11 +47,11 @@ text_fault told name root before now kind fault text first = (first, tt)
 
 module _ (told : Option Table) (root : Option (List ℕ)) (name : List ℕ) (selections : List (Option (List Name))) (kept after : Kept) (file next : FileData) (outer : List FileData) (reached : Reached told root name selections kept (file ∷ outer)) where
   -- a fault at a token of a file
-  pub text_met : (start now : Counts) (kind : ReadKind) (line column : ℕ) (fault : ReadFault) → Advances selections kept file (Fault kind line column) after next → IsTextFault kind next.name line column fault → IsFault told name root start now fault
+  pub text_met : (start now : Counts) (kind : ReadKind) (line column : ℕ) (fault : ReadFault) → Advances selections kept file (Fault kind line column) after next → FaultIs kind next.name line column [] fault → IsFault told name root start now fault
   text_met start now kind line column NoMemory goes is = tt
   text_met start now kind line column (At wanted where_is at_line at_column subject) goes is =
-      subst (λ f. IsFault told name root start now f) (sym is.1)
-      (text_fault told name root start now kind _ is.0
+      subst (λ f. IsFault told name root start now f) (sym is)
+      (text_fault told name root start now kind _ goes.1
       (record { world = reached.world; files = reached.files; whole = reached.whole; reading = fault_met told root name selections kept after file next outer reached kind line column goes }))
 
   -- a fault at an include

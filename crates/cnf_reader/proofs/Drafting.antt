@@ -1,12 +1,11 @@
 -- Lemmas on the draft of a clause: variables by their places, arguments counted at a place.
-use Rattle.std.proofs.Common.{◌≡◌, ℕ, zero, suc, ◌+◌, ◌<◌, ◌≤◌, Bool, true, false, not, cond, List, [], ◌∷◌, ◌++◌, map, length, get_or, refl, sym, ap, ◌∙◌, arith, take, drop, nat_eq, nat_lt, nat_le}
+use Rattle.std.proofs.Common.{◌≡◌, ℕ, zero, suc, ◌<◌, ◌≤◌, Bool, true, false, not, cond, List, [], ◌∷◌, ◌++◌, map, length, get_or, refl, sym, ap, ◌∙◌, arith, nat_eq, nat_lt, nat_le}
 use Rattle.std.proofs.Math.ListN.{set}
 use Rattle.std.specs.Str.{bytes_eq}
-use Rattle.std.specs.Option.{option_map}
 use Rattle.std.proofs.lemmas.Bool.Decides.{nat_tests}
 use Rattle.std.proofs.lemmas.Slice.Eq.{bytes_eq-Decides}
 use Rattle.cnf_reader.specs.Faults.{lacks_room}
-use Rattle.cnf_grammar.specs.Meaning.{index_of, symbol_item, variable_item, Item}
+use Rattle.cnf_grammar.specs.Meaning.{index_of, symbol_item}
 use Rattle.cnf_grammar.specs.Draft.{add_argument, has_text, with_variable}
 use Rattle.cnf_reader.specs.Drafts.{item_seen, kind_seen, text_seen}
 use Rattle.cnf_reader.specs.declared.draft.RawItem.{RawItem}

@@ -1,11 +1,10 @@
 -- What was opened for an include is what the definition opens.
-use Rattle.std.proofs.Common.{◌≡◌, ℕ, zero, suc, ◌+◌, ◌-◌, ◌<◌, ◌≤◌, Bool, true, false, List, [], ◌∷◌, length, Option, Some, None, Result, Ok, Err, refl, sym, ap, ◌∙◌, arith, subst, nat_le, drop, take}
+use Rattle.std.proofs.Common.{◌≡◌, ℕ, zero, suc, ◌-◌, ◌<◌, ◌≤◌, true, false, List, [], ◌∷◌, length, Option, Err, refl, sym, ap, ◌∙◌, arith, subst, nat_le}
 use Rattle.std.proofs.lemmas.Bool.Decides.{nat_tests}
-use Rattle.std.specs.Option.{option_to_list}
 use Rattle.mg_word.specs.declared.clause.Name.{Name}
 use Rattle.mg_outside.specs.Reading.{Table}
-use Rattle.tptp_lexer.specs.Tokens.{start_cursor, left_of, tokens_of, lexed_from, Lexed}
-use Rattle.tptp_lexer.specs.Spots.{passed, first_spot}
+use Rattle.tptp_lexer.specs.Tokens.{start_cursor, left_of, tokens_of}
+use Rattle.tptp_lexer.specs.Spots.{passed}
 use Rattle.cnf_grammar.specs.Table.{start}
 use Rattle.cnf_reader.specs.declared.fault.ReadFault.{ReadFault}
 use Rattle.cnf_reader.specs.declared.fault.ReadFault.TheVariants.{At, NoMemory}
@@ -17,14 +16,13 @@ use Rattle.cnf_reader.specs.declared.opening.Found.{Found}
 use Rattle.cnf_reader.specs.declared.opening.Found.TheVariants.{Opened, Absent, TooLong as FoundTooLong, Failed}
 use Rattle.cnf_reader.specs.Names.{tries}
 use Rattle.cnf_reader.specs.Statements.{fresh}
-use Rattle.cnf_reader.specs.Reading.{World, Source, Opening, read_tokens, read_source, source_of, with_file, with_include, fault_at, Counts, HasRisen, most_bytes, open_first, opened, none_found, too_long, read_failed, read_opened, include_in, if_few, follow, opening_of}
-use Rattle.cnf_reader.specs.Openings.{Finding, FindsTwo, IsOpening, found_seen, IsTold}
-use Rattle.cnf_reader.specs.Parts.{Lower, reads_on}
-use Rattle.cnf_reader.specs.Frames.{FileData, Enters, Refuses, rest_of, source_in, next_read}
+use Rattle.cnf_reader.specs.Reading.{World, Source, Opening, read_tokens, read_source, source_of, with_file, with_include, fault_at, Counts, HasRisen, most_bytes, open_first, read_opened, include_in, follow, opening_of}
+use Rattle.cnf_reader.specs.Openings.{FindsTwo, IsOpening, found_seen}
+use Rattle.cnf_reader.specs.Frames.{FileData, Enters, source_in, next_read}
 use Rattle.std.specs.declared.vec.Vec.{Vec}
 use Rattle.std.specs.declared.alloc.Global.{Global}
 use Rattle.cnf_reader.proofs.Tries.{nothing_found}
-use Rattle.cnf_reader.specs.Entering.{IsWhole, new_file, RefusesBy, IsNotEntered, FaultIs, IsBegun, BeginsNotBy, IsNotBegun}
+use Rattle.cnf_reader.specs.Entering.{IsWhole, new_file, RefusesBy, IsNotEntered, FaultIs, IsBegun, IsNotBegun}
 
 -- at the start of a text all of its tokens are left
 pub all_left : (bytes : List ℕ) → left_of bytes start_cursor ≡ tokens_of bytes

@@ -1,5 +1,5 @@
 -- How the reading of a file goes on behind one token.
-use Rattle.std.proofs.Common.{◌≡◌, ℕ, ◌+◌, ◌≤◌, Bool, true, false, true≢false, List, [], ◌∷◌, drop, take, length, Option, Some, None, Result, Ok, Err, refl, sym, ap, ◌∙◌, arith, subst, slice_range}
+use Rattle.std.proofs.Common.{◌≡◌, ℕ, true, List, [], ◌∷◌, drop, Option, Some, None, Result, Ok, Err, refl, sym, ap, ◌∙◌, subst}
 use Rattle.mg_word.specs.declared.clause.Name.{Name}
 use Rattle.tptp_lexer.specs.Tokens.{Lexed, first_of, first_by, rest_of}
 use Rattle.tptp_lexer.specs.declared.token.Token.{Token}
@@ -7,19 +7,18 @@ use Rattle.tptp_lexer.specs.declared.token.LexFault.{LexFault}
 use Rattle.cnf_grammar.specs.declared.mode.Mode.{Mode}
 use Rattle.cnf_grammar.specs.declared.mode.Mode.TheVariants.{ClauseClosed, IncludeClosed}
 use Rattle.cnf_grammar.specs.declared.place.Place.{Place}
-use Rattle.cnf_grammar.specs.Table.{is_end}
 use Rattle.cnf_reader.specs.declared.fault.ReadKind.{ReadKind}
-use Rattle.cnf_reader.specs.declared.fault.ReadKind.TheVariants.{Lex, Expected}
+use Rattle.cnf_reader.specs.declared.fault.ReadKind.TheVariants.{Lex}
 use Rattle.cnf_reader.specs.declared.fault.ReadFault.{ReadFault}
-use Rattle.cnf_reader.specs.declared.pending.Asked.{Asked}
 use Rattle.cnf_reader.specs.declared.pending.Pending.{Pending}
 use Rattle.cnf_reader.specs.declared.kept.Kept.{Kept}
 use Rattle.cnf_reader.specs.declared.part.Part.{Part}
 use Rattle.cnf_reader.specs.declared.part.Part.TheVariants.{Ended, Clause, Include, Fault}
-use Rattle.cnf_reader.specs.Statements.{fresh, take as take_token, Takes}
+use Rattle.cnf_reader.specs.Statements.{take as take_token, Takes}
 use Rattle.cnf_reader.specs.Keeping.{keep, is_full}
-use Rattle.cnf_reader.specs.Reading.{Source, read_tokens, go_on, behind, at_end, and_then, fault_at, shape_in}
-use Rattle.cnf_reader.specs.Parts.{Lower, reads_on, source_named, IsOpen, PartIs, IsEnd, EndIs}
+use Rattle.cnf_reader.specs.Reading.{Source, read_tokens, go_on, behind, at_end, fault_at, shape_in}
+use Rattle.cnf_reader.proofs.TextKinds.{text_kind}
+use Rattle.cnf_reader.specs.Parts.{is_of_text, Lower, reads_on, source_named, IsOpen, PartIs, IsEnd}
 
 -- what a token that is taken, or not, makes of the statement
 pub is_taken : (taken : Result Pending ReadKind) (new : Pending) → Takes taken None new → taken ≡ Ok new
@@ -70,14 +69,14 @@ Reaches number bytes selections kept from all p left =
 module _ (number : ℕ) (bytes : List ℕ) (selections : List (Option (List Name))) (kept : Kept) (from : Pending) (all : Lexed) (p : Pending) (left : Lexed) (reached : Reaches number bytes selections kept from all p left) where
   -- a lexical fault
   pub lex_fault : (met : LexFault) (after : Kept) (more : Lexed) → first_of left ≡ Err met → PartIs number bytes selections from kept all (Fault (Lex met.kind) met.line met.column) after more
-  lex_fault met after more first = λ lower name. reached lower name ∙ at_fault lower (source_named number bytes selections name) p kept left.tokens left.fault met first
+  lex_fault met after more first = (refl, λ lower name. reached lower name ∙ at_fault lower (source_named number bytes selections name) p kept left.tokens left.fault met first)
 
   -- the end
   pub the_end : (part : Part) (more : Lexed) → first_of left ≡ Ok None → IsEnd bytes p.place part → PartIs number bytes selections from kept all part kept more
   the_end Ended more first ends = λ lower name. reached lower name ∙ at_the_end lower (source_named number bytes selections name) p kept left.tokens left.fault first ∙ rw ends refl
   the_end (Clause next) more first ends = absurd ends
   the_end (Include next asked) more first ends = absurd ends
-  the_end (Fault kind line column) more first ends = λ lower name. reached lower name ∙ at_the_end lower (source_named number bytes selections name) p kept left.tokens left.fault first ∙ rw (ends.0, ends.1, ends.2, ends.3) refl
+  the_end (Fault kind line column) more first ends = (subst (λ k. is_of_text k ≡ true) (sym ends.1) refl, λ lower name. reached lower name ∙ at_the_end lower (source_named number bytes selections name) p kept left.tokens left.fault first ∙ rw (ends.0, ends.1, ends.2, ends.3) refl)
 
   module _ (token : Token) (first : first_of left ≡ Ok (Some token)) (result : Option ReadKind) (new : Pending) where
     taken_here : Lower → List ℕ → Result Pending ReadKind
@@ -85,9 +84,12 @@ module _ (number : ℕ) (bytes : List ℕ) (selections : List (Option (List Name
 
     -- a fault at the token
     pub token_fault : (kind : ReadKind) (after : Kept) (more : Lexed) → Takes (take_token (is_full kept) selections p (shape_in bytes token) token.line token.column) (Some kind) new → PartIs number bytes selections from kept all (Fault kind token.line token.column) after more
-    token_fault kind after more takes = λ lower name.
-        reached lower name ∙ one_token lower (source_named number bytes selections name) p kept left.tokens left.fault token first
-        ∙ ap (λ r. go_on lower (source_named number bytes selections name) kept p.place.mode token r (λ next also. read_tokens lower (source_named number bytes selections name) next also (drop 1 left.tokens) left.fault)) (is_refused _ kind new takes)
+    token_fault kind after more takes = (
+      text_kind (is_full kept) selections p (shape_in bytes token) token.line token.column kind new takes,
+      λ lower name.
+          reached lower name ∙ one_token lower (source_named number bytes selections name) p kept left.tokens left.fault token first
+          ∙ ap (λ r. go_on lower (source_named number bytes selections name) kept p.place.mode token r (λ next also. read_tokens lower (source_named number bytes selections name) next also (drop 1 left.tokens) left.fault)) (is_refused _ kind new takes),
+    )
 
     -- behind a token that was taken
     pub token_taken : Takes (take_token (is_full kept) selections p (shape_in bytes token) token.line token.column) None new → (lower : Lower) (name : List ℕ)

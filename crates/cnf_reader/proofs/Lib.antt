@@ -2,6 +2,7 @@ pub mod Drafting
 pub mod Numbering
 pub mod Taking
 pub mod Ends
+pub mod TextKinds
 pub mod Going
 pub mod Reaching
 pub mod Tries
@@ -9,3 +10,4 @@ pub mod Entered
 pub mod Answering
 pub mod Checking
 pub mod OneReading
+pub mod Selecting

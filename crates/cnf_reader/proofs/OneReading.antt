@@ -1,5 +1,5 @@
 -- Where files are told, a problem reads as one thing.
-use Rattle.std.proofs.Common.{◌≡◌, ◌⊎◌, inl, inr, ℕ, false, List, Option, Some, None, Result, Ok, Err, refl, sym, ap, ◌∙◌, subst}
+use Rattle.std.proofs.Common.{◌≡◌, inl, inr, ℕ, false, List, Option, Some, Result, Ok, Err, refl, sym, ap, ◌∙◌}
 use Rattle.mg_word.specs.Facts.{InputData}
 use Rattle.mg_outside.specs.Reading.{Table}
 use Rattle.cnf_reader.specs.declared.fault.ReadFault.{ReadFault}

@@ -1,5 +1,5 @@
 -- How the reading of a problem goes on from one statement to the next.
-use Rattle.std.proofs.Common.{◌≡◌, ◌≢◌, ℕ, zero, suc, ◌+◌, ◌-◌, ◌*◌, ◌<◌, ◌≤◌, Bool, true, false, true≢false, cond, List, [], ◌∷◌, length, drop, Option, Some, None, Result, Ok, Err, refl, sym, ap, ◌∙◌, arith, subst, if◌then◌else◌, nat_eq, nat_le}
+use Rattle.std.proofs.Common.{◌≡◌, ℕ, suc, ◌+◌, ◌*◌, ◌<◌, Bool, true, false, cond, List, ◌∷◌, length, drop, Option, Some, None, Result, Ok, Err, refl, sym, ap, ◌∙◌, arith, subst, nat_eq}
 use Rattle.std.proofs.lemmas.Bool.Decides.{nat_tests}
 use Rattle.mg_word.specs.declared.clause.Name.{Name}
 use Rattle.mg_outside.specs.Reading.{Table}
@@ -8,9 +8,9 @@ use Rattle.cnf_reader.specs.declared.fault.ReadKind.{ReadKind}
 use Rattle.cnf_reader.specs.declared.kept.Kept.{Kept}
 use Rattle.cnf_reader.specs.declared.pending.Asked.{Asked}
 use Rattle.cnf_reader.specs.declared.files.Step.TheVariants.{Ended, Clause, Include, Fault}
-use Rattle.cnf_reader.specs.Reading.{Source, World, read_tokens, and_then, fault_at, include_in, reading_of, NeverFails, AreTold}
-use Rattle.cnf_reader.specs.Parts.{Lower, Stays}
-use Rattle.cnf_reader.specs.Openings.{Finding, FindsTwo, IsTold}
+use Rattle.cnf_reader.specs.Reading.{World, and_then, fault_at, include_in, reading_of, NeverFails, AreTold}
+use Rattle.cnf_reader.specs.Parts.{Stays}
+use Rattle.cnf_reader.specs.Openings.{Finding, FindsTwo}
 use Rattle.cnf_reader.specs.Frames.{FileData, IsSame, rest_of, source_in, Advances, levels_in, resume, SameBelow, Reached, next_read, Enters, Refuses}
 
 pub same_itself : (number : ℕ) (world : World) → SameBelow number world world
@@ -109,7 +109,7 @@ module _ (told : Option Table) (root : Option (List ℕ)) (name : List ℕ) (sel
   pub fault_met : (kind : ReadKind) (line column : ℕ) → Advances selections kept file (Fault kind line column) after next → reading_of reached.world root name ≡ fault_at kind next.name line column
   fault_met kind line column goes =
       reached.reading reached.world (same_itself (next_read kept) reached.world)
-      ∙ ap (λ r. and_then r (λ later. resume reached.world root (drop 1 selections) later outer)) (goes.1 (λ asked early. include_in reached.world root (levels_in outer) (source_in selections file) asked early)) ∙ ap (λ n. fault_at kind n line column) (sym goes.0.0)
+      ∙ ap (λ r. and_then r (λ later. resume reached.world root (drop 1 selections) later outer)) (goes.2 (λ asked early. include_in reached.world root (levels_in outer) (source_in selections file) asked early)) ∙ ap (λ n. fault_at kind n line column) (sym goes.0.0)
 
   module _ (asked : Asked) (goes : Advances selections kept file (Include asked) after next) (stays : Stays kept after) where
     -- how the reading goes on at an include

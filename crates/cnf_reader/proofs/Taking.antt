@@ -1,20 +1,19 @@
 -- How a token that is no fault moves the statement under way.
-use Rattle.std.proofs.Common.{◌≡◌, ℕ, ◌+◌, ◌≤◌, Bool, true, false, true≢false, List, Option, Some, None, Result, Ok, Err, refl, sym, ap, ◌∙◌, arith, subst, if◌then◌else◌, cond, nat_lt}
+use Rattle.std.proofs.Common.{◌≡◌, ℕ, ◌+◌, ◌≤◌, Bool, true, false, true≢false, List, Option, Some, None, refl, sym, ap, ◌∙◌, arith}
 use Rattle.std.proofs.lemmas.Bool.Decides.{nat_tests}
 use Rattle.mg_word.specs.declared.clause.Name.{Name}
 use Rattle.cnf_grammar.specs.declared.mode.Mode.{Mode}
-use Rattle.cnf_grammar.specs.declared.mode.Mode.TheVariants.{Statement, NameStart, InfoStart, Info, FileStart, SelectionStart, SelectionOpen, SelectedStart}
+use Rattle.cnf_grammar.specs.declared.mode.Mode.TheVariants.{Info}
 use Rattle.cnf_grammar.specs.declared.place.Place.{Place}
 use Rattle.cnf_grammar.specs.declared.item.ItemPlace.{ItemPlace}
-use Rattle.cnf_grammar.specs.Shapes.{Shape, is_name}
+use Rattle.cnf_grammar.specs.Shapes.{Shape}
 use Rattle.cnf_grammar.specs.Table.{step}
 use Rattle.cnf_grammar.specs.Moving.{Moves}
 use Rattle.cnf_grammar.specs.Items.{item_step}
-use Rattle.cnf_reader.specs.declared.fault.ReadKind.{ReadKind}
-use Rattle.cnf_reader.specs.declared.fault.ReadKind.TheVariants.{BadConclude, TooDeep}
+use Rattle.cnf_reader.specs.declared.fault.ReadKind.TheVariants.{BadConclude}
 use Rattle.cnf_reader.specs.declared.pending.Pending.{Pending}
-use Rattle.cnf_reader.specs.Faults.{refusal, limit_fault, is_too_deep}
-use Rattle.cnf_reader.specs.Statements.{take, taken, fault_here, fault_before, breaks_item, add_at, with_token, take_info, take_item, is_outside_items, Takes, place_or}
+use Rattle.cnf_reader.specs.Faults.{limit_fault, is_too_deep}
+use Rattle.cnf_reader.specs.Statements.{take, fault_here, breaks_item, add_at, take_info, take_item, is_outside_items, Takes}
 
 -- where the place moved, the table had that place
 pub moved_to : (found : Option Place) (moved : Bool) (old new : Place) → Moves found moved old new → moved ≡ true → found ≡ Some new

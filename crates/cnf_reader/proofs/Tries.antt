@@ -1,15 +1,15 @@
 -- What a read answers is what some files, the told ones where files are told, give to a try.
-use Rattle.std.proofs.Common.{◌≡◌, ℕ, zero, suc, ◌+◌, ◌-◌, ◌<◌, ◌≤◌, Bool, true, false, List, [], ◌∷◌, ◌++◌, length, Option, Some, None, IfSome, refl, sym, ap, ◌∙◌, arith, subst, nat_le}
+use Rattle.std.proofs.Common.{◌≡◌, ℕ, zero, suc, ◌<◌, ◌≤◌, true, false, List, [], ◌∷◌, ◌++◌, length, Option, Some, None, IfSome, refl, sym, ap, ◌∙◌, arith, subst, nat_le}
 use Rattle.std.proofs.lemmas.Bool.Decides.{nat_tests}
-use Rattle.std.specs.Option.{IsSomeAnd, option_to_list}
+use Rattle.std.specs.Option.{IsSomeAnd}
 use Rattle.std.specs.declared.vec.Vec.{Vec}
 use Rattle.std.specs.declared.alloc.Global.{Global}
 use Rattle.mg_outside.specs.Causes.{Rose}
 use Rattle.mg_outside.specs.Reading.{Table, TakesFile, IsAbsent, IsTooLong}
 use Rattle.cnf_reader.specs.declared.opening.Tried.TheVariants.{Opened as TriedOpened, Absent as TriedAbsent, TooLong as TriedTooLong, Failed as TriedFailed}
 use Rattle.cnf_reader.specs.declared.opening.Found.TheVariants.{Opened, Absent, TooLong, Failed}
-use Rattle.cnf_reader.specs.Reading.{World, Opening, opened, none_found, too_long, read_failed, open_first, by_read, Counts}
-use Rattle.cnf_reader.specs.Openings.{Finding, IsTold, IsTry, IsOpening, FindsTwo, tried_seen, found_seen}
+use Rattle.cnf_reader.specs.Reading.{opened, none_found, open_first, Counts}
+use Rattle.cnf_reader.specs.Openings.{Finding, IsTry, IsOpening}
 
 -- a finding of which nothing is needed
 pub nothing_found : (told : Option Table) → (finding : Finding told) × (finding.fails ≡ false)

@@ -1,5 +1,5 @@
 -- How large an input may be.
-use Rattle.std.specs.Prelude.{ℕ, ◌≤◌, length, All}
+use Rattle.std.specs.Prelude.{◌≤◌, length, All}
 use Rattle.mg_word.specs.Facts.{InputData}
 use Rattle.mg_word.specs.Table.{Symbol}
 use Rattle.mg_word.specs.declared.clause.Clause.{Clause}

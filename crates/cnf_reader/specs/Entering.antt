@@ -1,18 +1,17 @@
 -- How files are opened and taken in. No public clause cites this module.
-use Rattle.std.specs.Prelude.{◌≡◌, ℕ, zero, suc, ◌+◌, ◌-◌, ◌<◌, ◌≤◌, Bool, true, false, nat_le, List, [], ◌∷◌, ◌++◌, length, Option, Some, None, Result, Ok, Err}
-use Rattle.mg_word.specs.declared.clause.Name.{Name}
+use Rattle.std.specs.Prelude.{◌≡◌, ℕ, ◌≤◌, Bool, false, List, [], ◌∷◌, length, Option, Err}
 use Rattle.mg_outside.specs.Reading.{Table}
 use Rattle.tptp_lexer.specs.Tokens.{start_cursor}
 use Rattle.cnf_grammar.specs.Table.{start}
 use Rattle.cnf_reader.specs.declared.fault.ReadFault.{ReadFault}
 use Rattle.cnf_reader.specs.declared.fault.ReadFault.TheVariants.{At, NoMemory}
 use Rattle.cnf_reader.specs.declared.fault.ReadKind.{ReadKind}
-use Rattle.cnf_reader.specs.declared.fault.ReadKind.TheVariants.{Files, ProblemAbsent, IncludeAbsent, TooLong}
+use Rattle.cnf_reader.specs.declared.fault.ReadKind.TheVariants.{Files}
 use Rattle.cnf_reader.specs.declared.kept.Kept.{Kept}
 use Rattle.cnf_reader.specs.declared.pending.Asked.{Asked}
-use Rattle.cnf_reader.specs.Reading.{World, with_file, with_include, fault_at, Counts, HasRisen, most_bytes, opened, open_first, read_opened, read_source, include_in, source_of, most_levels}
+use Rattle.cnf_reader.specs.Reading.{World, with_file, Counts, HasRisen, most_bytes, opened, open_first, read_opened}
 use Rattle.cnf_reader.specs.Openings.{Finding, FindsTwo}
-use Rattle.cnf_reader.specs.Frames.{FileData, Enters, Refuses, rest_of, source_in}
+use Rattle.cnf_reader.specs.Frames.{FileData, Refuses}
 
 -- the fault of that kind there, or want of memory
 abbrev pub FaultIs : ReadKind → List ℕ → ℕ → ℕ → List ℕ → ReadFault → Type 0
@@ -67,16 +66,3 @@ pub record BeginsNotBy (told : Option Table) (name : List ℕ) (before now : Cou
 abbrev pub IsNotBegun : Option Table → List ℕ → Counts → Counts → ReadFault → Type 0
 IsNotBegun told name before now (At kind file line column subject) = BeginsNotBy told name before now kind (At kind file line column subject)
 IsNotBegun told name before now NoMemory = Unit {0}
-
--- whether faults of this kind stand at tokens of a file, and not at its opening
-abbrev pub is_of_text : ReadKind → Bool
-is_of_text Files = false
-is_of_text ProblemAbsent = false
-is_of_text IncludeAbsent = false
-is_of_text TooLong = false
-is_of_text kind = true
-
--- a fault of this kind that stands at a token, or want of memory
-abbrev pub IsTextFault : ReadKind → List ℕ → ℕ → ℕ → ReadFault → Type 0
-IsTextFault kind name line column (At wanted file at_line at_column subject) = (is_of_text kind ≡ true) × (At wanted file at_line at_column subject ≡ At kind name line column [])
-IsTextFault kind name line column NoMemory = Unit {0}

@@ -1,20 +1,18 @@
 -- Which fault a token is, where one stands at it.
-use Rattle.std.specs.Prelude.{ℕ, ◌+◌, Bool, true, false, cond, not, ◌&&◌, ◌||◌, nat_le, nat_lt, ◌==◌, nat_eq, List, [], ◌∷◌, length, Option, Some, None, codes, if◌then◌else◌}
+use Rattle.std.specs.Prelude.{ℕ, ◌+◌, Bool, true, false, not, ◌&&◌, ◌||◌, nat_le, nat_lt, ◌==◌, List, [], length, Option, Some, None, codes, if◌then◌else◌}
 use Rattle.std.specs.List.{list_any, list_all}
 use Rattle.std.specs.Str.{bytes_eq}
 use Rattle.mg_word.specs.declared.symbol.Kind.{Kind}
 use Rattle.mg_word.specs.declared.symbol.Kind.TheVariants.{Word as word_name, Integer as number_name, Distinct as text_name}
 use Rattle.mg_word.specs.declared.clause.Name.{Name}
 use Rattle.cnf_grammar.specs.declared.mode.Mode.{Mode}
-use Rattle.cnf_grammar.specs.declared.mode.Mode.TheVariants.{Statement, NameStart, RoleStart, FormulaStart, LiteralStart, AtomStart, WordRead, TermStart, TermRead, Info}
+use Rattle.cnf_grammar.specs.declared.mode.Mode.TheVariants.{Statement, NameStart, RoleStart, FormulaStart, LiteralStart, AtomStart, WordRead, TermStart, TermRead}
 use Rattle.cnf_grammar.specs.declared.place.Place.{Place}
 use Rattle.cnf_grammar.specs.Shapes.{Shape, Lower, Upper, Quoted, Distinct, Dollar, Number as Numeral, NotEqual, Punct, is_mark, comma, right_square}
 use Rattle.cnf_grammar.specs.Meaning.{unquoted, ClauseLiteral, always, never, signed}
 use Rattle.cnf_grammar.specs.Draft.{Draft, has_text}
-use Rattle.cnf_grammar.specs.Items.{item_step}
-use Rattle.cnf_grammar.specs.declared.item.ItemPlace.{ItemPlace}
 use Rattle.cnf_reader.specs.declared.fault.ReadKind.{ReadKind}
-use Rattle.cnf_reader.specs.declared.fault.ReadKind.TheVariants.{Expected, Role, NotCnf, Equality, Number, Defined, BadConclude, TooManyClauses, TooManyLiterals, TooManyVariables, TooDeep}
+use Rattle.cnf_reader.specs.declared.fault.ReadKind.TheVariants.{Expected, Role, NotCnf, Equality, Number, Defined, TooManyClauses, TooManyLiterals, TooManyVariables}
 
 -- the most clauses that are kept
 abbrev pub most_clauses : ℕ

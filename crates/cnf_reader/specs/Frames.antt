@@ -1,5 +1,5 @@
 -- Files that are open, and what is still to be read of them. No public clause cites this module.
-use Rattle.std.specs.Prelude.{◌≡◌, false, ℕ, zero, suc, ◌+◌, ◌-◌, ◌*◌, ◌<◌, ◌≤◌, List, [], ◌∷◌, length, drop, Option, Some, None, Result, Ok, Err}
+use Rattle.std.specs.Prelude.{◌≡◌, false, true, ℕ, suc, ◌+◌, ◌-◌, ◌*◌, ◌<◌, ◌≤◌, List, [], ◌∷◌, length, drop, Option, Result, Ok, Err}
 use Rattle.mg_word.specs.declared.clause.Name.{Name}
 use Rattle.mg_outside.specs.Reading.{Table}
 use Rattle.tptp_lexer.specs.Tokens.{left_of, IsAt}
@@ -12,9 +12,9 @@ use Rattle.cnf_reader.specs.declared.files.Step.{Step}
 use Rattle.cnf_reader.specs.declared.files.Step.TheVariants.{Ended, Clause, Include, Fault}
 use Rattle.cnf_reader.specs.declared.files.OpenFile.TheInside.{Inside}
 use Rattle.cnf_reader.specs.Statements.{fresh}
-use Rattle.cnf_reader.specs.Reading.{Source, World, read_tokens, and_then, fault_at, include_in, reading_of, NeverFails, AreTold}
+use Rattle.cnf_reader.specs.Reading.{Source, World, and_then, fault_at, include_in, reading_of, NeverFails, AreTold}
 use Rattle.cnf_reader.specs.Openings.{Finding, FindsTwo}
-use Rattle.cnf_reader.specs.Parts.{Lower, reads_on, source_named, IsOpen}
+use Rattle.cnf_reader.specs.Parts.{is_of_text, Lower, reads_on, source_named, IsOpen}
 
 -- a file that is open
 pub record FileData : Type 0 where
@@ -51,7 +51,7 @@ Advances selections kept f Ended after g = (lower : Lower) → rest_of lower sel
 Advances selections kept f Clause after g = IsSame f g × ((lower : Lower) → rest_of lower selections kept f ≡ rest_of lower selections after g)
 Advances selections kept f (Include asked) after g =
     IsSame f g × ((lower : Lower) → rest_of lower selections kept f ≡ and_then (lower asked after) (λ behind. rest_of lower selections behind g))
-Advances selections kept f (Fault kind line column) after g = IsSame f g × ((lower : Lower) → rest_of lower selections kept f ≡ fault_at kind f.name line column)
+Advances selections kept f (Fault kind line column) after g = IsSame f g × (is_of_text kind ≡ true) × ((lower : Lower) → rest_of lower selections kept f ≡ fault_at kind f.name line column)
 
 -- how many levels are left below a file that stands in so many others
 abbrev pub levels_in : List FileData → ℕ

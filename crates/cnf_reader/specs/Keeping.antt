@@ -1,5 +1,5 @@
 -- What is kept of the clauses read: their symbols, numbered by first occurrence, and themselves.
-use Rattle.std.specs.Prelude.{ℕ, zero, suc, ◌+◌, Bool, true, false, cond, ◌||◌, nat_le, List, [], ◌∷◌, ◌++◌, map, length, Option, Some, None, if◌then◌else◌}
+use Rattle.std.specs.Prelude.{ℕ, suc, Bool, cond, nat_le, List, [], ◌∷◌, ◌++◌, length, Option, if◌then◌else◌}
 use Rattle.std.specs.List.{list_any}
 use Rattle.mg_word.specs.Facts.{InputData}
 use Rattle.mg_word.specs.Table.{Symbol, symbol_of}

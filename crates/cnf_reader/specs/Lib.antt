@@ -10,3 +10,4 @@ pub mod Frames
 pub mod Entering
 pub mod Checks
 pub mod Bounds
+pub mod Selecting

@@ -1,5 +1,5 @@
 -- What tries to read files find. No public clause cites this module.
-use Rattle.std.specs.Prelude.{◌≡◌, ℕ, suc, ◌<◌, ◌≤◌, Bool, true, false, List, length, Option, None, Some}
+use Rattle.std.specs.Prelude.{◌≡◌, ℕ, suc, ◌≤◌, Bool, true, false, List, length, Option, None, Some}
 use Rattle.mg_outside.specs.Causes.{Rose}
 use Rattle.mg_outside.specs.Reading.{Table}
 use Rattle.cnf_reader.specs.declared.opening.Tried.{Tried}

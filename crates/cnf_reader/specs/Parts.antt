@@ -1,12 +1,12 @@
 -- What a statement is to the reading of its file. No public clause cites this module.
-use Rattle.std.specs.Prelude.{◌≡◌, ℕ, ◌+◌, ◌≤◌, true, false, List, length, Option, None, Some, Result, Ok, Err}
+use Rattle.std.specs.Prelude.{◌≡◌, ℕ, ◌+◌, ◌≤◌, Bool, true, false, List, length, Option, Result, Ok}
 use Rattle.mg_word.specs.declared.clause.Name.{Name}
 use Rattle.tptp_lexer.specs.Tokens.{Lexed}
 use Rattle.tptp_lexer.specs.Spots.{spot_at}
 use Rattle.cnf_grammar.specs.declared.place.Place.{Place}
 use Rattle.cnf_grammar.specs.Table.{is_end}
 use Rattle.cnf_reader.specs.declared.fault.ReadKind.{ReadKind}
-use Rattle.cnf_reader.specs.declared.fault.ReadKind.TheVariants.{Expected}
+use Rattle.cnf_reader.specs.declared.fault.ReadKind.TheVariants.{Expected, Files, ProblemAbsent, IncludeAbsent, TooLong}
 use Rattle.cnf_reader.specs.declared.fault.ReadFault.{ReadFault}
 use Rattle.cnf_reader.specs.declared.pending.Asked.{Asked}
 use Rattle.cnf_reader.specs.declared.pending.Pending.{Pending}
@@ -36,6 +36,14 @@ IsOpen p = p.level + p.depth ≤ 100
 abbrev pub Stays : Kept → Kept → Type 0
 Stays kept after = (after.includes ≡ kept.includes) × (after.bytes ≡ kept.bytes)
 
+-- whether faults of this kind stand at tokens of a file, and not at its opening
+abbrev pub is_of_text : ReadKind → Bool
+is_of_text Files = false
+is_of_text ProblemAbsent = false
+is_of_text IncludeAbsent = false
+is_of_text TooLong = false
+is_of_text kind = true
+
 -- how the reading of a file goes on with this part, whatever the file's name and whatever its includes are
 abbrev pub PartIs : ℕ → List ℕ → List (Option (List Name)) → Pending → Kept → Lexed → Part → Kept → Lexed → Type 0
 PartIs number bytes selections p kept left Ended after more =
@@ -46,7 +54,7 @@ PartIs number bytes selections p kept left (Include next asked) after more =
     IsOpen next × ((lower : Lower) (name : List ℕ) → reads_on lower (source_named number bytes selections name) p kept left
     ≡ and_then (lower asked after) (λ behind. reads_on lower (source_named number bytes selections name) (fresh next) behind more))
 PartIs number bytes selections p kept left (Fault kind line column) after more =
-    (lower : Lower) (name : List ℕ) → reads_on lower (source_named number bytes selections name) p kept left ≡ fault_at kind name line column
+    (is_of_text kind ≡ true) × ((lower : Lower) (name : List ℕ) → reads_on lower (source_named number bytes selections name) p kept left ≡ fault_at kind name line column)
 
 -- the same from the start of a statement
 abbrev pub IsPart : ℕ → List ℕ → List (Option (List Name)) → Place → Kept → Lexed → Part → Kept → Lexed → Type 0

@@ -1,15 +1,15 @@
 -- A statement under way: what each of its tokens adds, and the fault that stands at one.
-use Rattle.std.specs.Prelude.{◌≡◌, ℕ, Bool, true, false, not, ◌&&◌, ◌||◌, List, [], ◌∷◌, ◌++◌, map, length, Option, Some, None, Result, Ok, Err, if◌then◌else◌}
+use Rattle.std.specs.Prelude.{◌≡◌, ℕ, Bool, true, false, not, ◌&&◌, List, [], ◌∷◌, ◌++◌, map, Option, Some, None, Result, Ok, Err, if◌then◌else◌}
 use Rattle.mg_word.specs.declared.symbol.Kind.TheVariants.{Word}
 use Rattle.mg_word.specs.declared.clause.Name.{Name}
 use Rattle.cnf_grammar.specs.declared.brackets.Bracket.{Bracket}
 use Rattle.cnf_grammar.specs.declared.mode.Mode.{Mode}
 use Rattle.cnf_grammar.specs.declared.mode.Mode.TheVariants.{Statement, NameStart, InfoStart, Info, FileStart, SelectionStart, SelectionOpen, SelectedStart}
 use Rattle.cnf_grammar.specs.declared.place.Place.{Place}
-use Rattle.cnf_grammar.specs.Shapes.{Shape, Lower, Quoted, is_mark, is_name, comma}
+use Rattle.cnf_grammar.specs.Shapes.{Shape, Lower, Quoted, is_name}
 use Rattle.cnf_grammar.specs.Meaning.{unquoted}
 use Rattle.cnf_grammar.specs.Table.{step}
-use Rattle.cnf_grammar.specs.Draft.{Draft, empty_draft, collect_at}
+use Rattle.cnf_grammar.specs.Draft.{empty_draft, collect_at}
 use Rattle.cnf_grammar.specs.Items.{item_step}
 use Rattle.cnf_grammar.specs.declared.item.ItemPlace.TheVariants.{Start as item_start, Closed as item_closed, NumberRead as number_read}
 use Rattle.cnf_grammar.specs.declared.item.ItemPlace.{ItemPlace}

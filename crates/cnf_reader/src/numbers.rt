@@ -11,9 +11,9 @@ use mg_word::{ClauseLit, Item, Kind, NoMemory, PatLit, Pattern, Symbols};
 use std::alloc::Global;
 use std::str::from_utf8;
 
-// The number of the symbol with this name, which goes last where it is new. Names are ASCII, and
-// more symbols than a number counts do not fit memory.
-fn intern(symbols: &mut Symbols, name: &[u8], arity: u32, kind: Kind) -> Result<u32, NoMemory>
+/// The number of the symbol with this name, which goes last where it is new. Names are ASCII, and
+/// more symbols than a number counts do not fit memory.
+pub fn intern(symbols: &mut Symbols, name: &[u8], arity: u32, kind: Kind) -> Result<u32, NoMemory>
     ensures { IfOk result (λ id. (id ≡ keeping.number_in symbols.old (symbol_of name.now arity kind)) × (symbols.new ≡ keeping.with_symbol symbols.old (symbol_of name.now arity kind))) }
 {
     if symbols.len() == u32::MAX {

@@ -55,7 +55,7 @@ fn keep(
         conclude,
         asked: _,
     } = pending;
-    if !selections.have(&name) {
+    if !selections.have(&name)? {
         return Ok(place);
     }
     let literals = number_literals(alloc, &mut kept.symbols, draft.literals())?;

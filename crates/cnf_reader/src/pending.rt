@@ -347,7 +347,7 @@ fn name_fault(
 ) -> Result<Option<ReadKind>, NoMemory>
     ensures { IfOk result (λ fault. fault ≡ faults.name_fault is_full selections.now (seen token.now)) }
 {
-    if is_full && selections.have(&name_of(alloc, token)?) {
+    if is_full && selections.have(&name_of(alloc, token)?)? {
         return Ok(Some(ReadKind::TooManyClauses));
     }
     Ok(None)

@@ -4,12 +4,11 @@ ghost use Rattle.std.specs.Prelude.{◌≡◌, ◌≤◌, ◌∷◌, OnOk, IfOk,
 ghost use Rattle.std.specs.Option.{option_map};
 ghost use Rattle.cnf_reader.specs.Reading.{Reads, IsFault, nothing_kept};
 ghost use Rattle.cnf_reader.specs.Bounds.{IsBounded};
-ghost use Rattle.cnf_reader.specs.Entering.{is_of_text, IsTextFault};
 ghost use Rattle.cnf_reader.specs.Frames.{ReadsKept};
 
 use crate::enter::{begin, enter, fault_at};
 use crate::facts::make_input;
-use crate::fault::{ReadFault, ReadKind};
+use crate::fault::ReadFault;
 use crate::files::{OpenFile, OpenFiles, Step};
 use crate::kept::Kept;
 use crate::pending::Asked;
@@ -17,26 +16,6 @@ use crate::selections::Selections;
 use mg_outside::Files;
 use mg_word::{Input, Items, Name, NoMemory, Symbols};
 use std::alloc::Global;
-
-// Whether faults of this kind stand at tokens of a file.
-fn is_of_text(kind: ReadKind) -> bool
-    ensures { result ≡ is_of_text kind }
-{
-    !matches!(
-        kind,
-        ReadKind::IncludeAbsent | ReadKind::TooLong | ReadKind::ProblemAbsent | ReadKind::Files
-    )
-}
-
-// The fault at this place of a file. No fault of a file's opening stands at its tokens.
-fn fault_in(alloc: Global, kind: ReadKind, file: &[u8], line: u32, column: u32) -> ReadFault
-    ensures { IsTextFault kind file.now line column result }
-{
-    if is_of_text(kind) {
-        return fault_at(alloc, kind, file, line, column, &[]);
-    }
-    ReadFault::NoMemory
-}
 
 // Nothing is kept yet.
 fn make_kept(alloc: Global) -> Result<Kept, NoMemory>
@@ -123,7 +102,7 @@ fn read_files<F: Files>(
                 continue;
             }
             Step::Fault(kind, line, column) => {
-                return Err(fault_in(alloc, kind, next.name(), line, column));
+                return Err(fault_at(alloc, kind, next.name(), line, column, &[]));
             }
         }
     }

@@ -1,18 +1,73 @@
 //! The selections under which a file is read.
 
-ghost use Rattle.std.specs.Prelude.{◌≡◌, ◌∷◌, [], OnOk, drop};
+ghost use Rattle.std.specs.Prelude.{◌≡◌, ◌∷◌, [], IfOk, OnOk, drop};
 ghost use Rattle.std.specs.List.{list_any};
-ghost use Rattle.cnf_reader.specs.Faults.{same_kind, same_name, selects, is_selected};
+ghost use Rattle.cnf_reader.specs.Faults.{same_name, selects, is_selected};
+ghost use Rattle.cnf_reader.specs.Selecting.{table_of};
 
-use mg_word::{Items, Kind, Name, NoMemory};
+use crate::numbers::intern;
+use mg_word::{Items, Name, NoMemory, Symbols};
 use std::alloc::Global;
 use std::marker::Model;
+use std::str::from_utf8;
+
+/// The names that an include has, with a table of them in which a name is looked up. Contracts see
+/// the names.
+#[derive(Drop)]
+struct Selected {
+    names: Items<Name>,
+    table: Symbols,
+}
+
+impl Model for Selected {
+    ghost use Rattle.std.specs.Prelude.{◌≡◌, List};
+    ghost use Rattle.mg_word.specs.declared.clause.Name.{Name};
+    ghost use Rattle.cnf_reader.specs.Selecting.{table_of};
+
+    ghost Value = { List Name };
+
+    ghost view = { λ s. s.names };
+
+    ghost invariant = { λ s. s.table ≡ table_of s.names };
+}
+
+impl Selected {
+    // The selection of these names.
+    fn new(alloc: Global, names: Items<Name>) -> Result<Selected, NoMemory>
+        ensures { IfOk result (λ selected. selected ≡ names) }
+    {
+        let table = make_table(alloc, names.as_slice())?;
+        Ok(Selected { names, table })
+    }
+
+    // Whether the name is one of them. Names are ASCII.
+    fn has(&self, name: &Name) -> Result<bool, NoMemory>
+        ensures { IfOk result (λ has. has ≡ list_any (λ other. same_name other name.now) self.now) }
+    {
+        let Ok(text) = from_utf8(name.text.as_slice()) else {
+            return Err(NoMemory);
+        };
+        let found = self.table.find(text, 0, name.kind)?;
+        Ok(found.is_some())
+    }
+}
+
+// The table of the names.
+fn make_table(alloc: Global, names: &[Name]) -> Result<Symbols, NoMemory>
+    ensures { IfOk result (λ table. table ≡ table_of names.now) }
+{
+    let mut table = Symbols::new(alloc)?;
+    for name in names {
+        intern(&mut table, name.text.as_slice(), 0, name.kind)?;
+    }
+    Ok(table)
+}
 
 /// The selections of the files that are open: for each the names that its include has, where it has
 /// a list of names. Contracts see them as a list, that of the innermost file first.
 #[derive(Drop)]
 pub struct Selections {
-    lists: Vec<Option<Items<Name>>>,
+    lists: Vec<Option<Selected>>,
 }
 
 impl Model for Selections {
@@ -38,7 +93,8 @@ impl Selections {
     pub fn push(&mut self, names: Option<Items<Name>>) -> Result<(), NoMemory>
         ensures { OnOk result (self.new ≡ names ∷ self.old) }
     {
-        self.lists.insert(0, names)?;
+        let list = make_list(*self.lists.allocator(), names)?;
+        self.lists.insert(0, list)?;
         Ok(())
     }
 
@@ -52,52 +108,34 @@ impl Selections {
     }
 
     /// Whether each selection has the name.
-    pub fn have(&self, name: &Name) -> bool
-        ensures { result ≡ is_selected self.now name.now }
+    pub fn have(&self, name: &Name) -> Result<bool, NoMemory>
+        ensures { IfOk result (λ have. have ≡ is_selected self.now name.now) }
     {
         for names in &self.lists {
-            if !selects(name, names) {
-                return false;
+            if !selects(name, names)? {
+                return Ok(false);
             }
         }
-        true
+        Ok(true)
     }
 }
 
-fn is_same_kind(a: Kind, b: Kind) -> bool
-    ensures { result ≡ same_kind a b }
+// The selection of these names, where an include has a list of them.
+fn make_list(alloc: Global, names: Option<Items<Name>>) -> Result<Option<Selected>, NoMemory>
+    ensures { IfOk result (λ list. list ≡ names) }
 {
-    match (a, b) {
-        (Kind::Word, Kind::Word) => true,
-        (Kind::Integer, Kind::Integer) => true,
-        (Kind::Distinct, Kind::Distinct) => true,
-        _ => false,
+    match names {
+        None => Ok(None),
+        Some(names) => Ok(Some(Selected::new(alloc, names)?)),
     }
-}
-
-fn is_same_name(a: &Name, b: &Name) -> bool
-    ensures { result ≡ same_name a.now b.now }
-{
-    is_same_kind(a.kind, b.kind) && a.text.as_slice() == b.text.as_slice()
 }
 
 // Whether the names have this one.
-fn selects(name: &Name, names: &Option<Items<Name>>) -> bool
-    ensures { result ≡ selects name.now names.now }
+fn selects(name: &Name, names: &Option<Selected>) -> Result<bool, NoMemory>
+    ensures { IfOk result (λ has. has ≡ selects name.now names.now) }
 {
     match names {
-        None => true,
-        Some(names) => has_name(names.as_slice(), name),
+        None => Ok(true),
+        Some(names) => names.has(name),
     }
-}
-
-fn has_name(names: &[Name], name: &Name) -> bool
-    ensures { result ≡ list_any (λ other. same_name other name.now) names.now }
-{
-    for other in names {
-        if is_same_name(other, name) {
-            return true;
-        }
-    }
-    false
 }

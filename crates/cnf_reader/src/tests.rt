@@ -102,6 +102,17 @@ fn limits_hold(rt: HostRuntime) -> Result<(), Fail> {
     )?;
     let deep = repeated(alloc, "cnf(c,axiom,", "(", 101, "p")?;
     check(&rt, alloc, deep.as_str(), Some((ReadKind::TooDeep, 1, 113)))?;
+    let fits =
+        "cnf(c,axiom,~p(X01,X02,X03,X04,X05,X06,X07,X08,X09,X10,X11,X12,X13,X14,X15,X16,X17,X18,X19,X20,X21,X22,X23,X24,X25,X26,X27,X28,X29,X30,X31,X32)).";
+    check(&rt, alloc, fits, None)?;
+    let passes =
+        "cnf(c,axiom,~p(X01,X02,X03,X04,X05,X06,X07,X08,X09,X10,X11,X12,X13,X14,X15,X16,X17,X18,X19,X20,X21,X22,X23,X24,X25,X26,X27,X28,X29,X30,X31,X32,X33)).";
+    check(
+        &rt,
+        alloc,
+        passes,
+        Some((ReadKind::TooManyVariables, 1, 144)),
+    )?;
     let includes = repeated(alloc, "", "include('e.p').\n", 256, "")?;
     check(&rt, alloc, includes.as_str(), None)?;
     let too_many = repeated(alloc, "", "include('e.p').\n", 257, "")?;
@@ -132,7 +143,9 @@ fn selections_and_roots(rt: HostRuntime) -> Result<(), Fail> {
             assert_eq!(rt; input.files.as_slice().len(), 2);
             assert_eq!(rt; input.symbols.len(), 1);
         }
-        Err(_) => assert!(rt; false, "refused"),
+        Err(_) => {
+            assert!(rt; false, "refused");
+        }
     }
     match read_problem(alloc, &mut files, "none.p", None) {
         Err(
@@ -145,7 +158,56 @@ fn selections_and_roots(rt: HostRuntime) -> Result<(), Fail> {
         ) => {
             assert!(rt; kind == ReadKind::ProblemAbsent && line == 1 && column == 1);
         }
-        _ => assert!(rt; false, "no such file"),
+        _ => {
+            assert!(rt; false, "no such file");
+        }
+    }
+    Ok(())
+}
+
+// What the front of three clauses is that ends with this line under way: it is read where no statement is under way,
+// its last token is wrong where a keyword or a role is not whole, and else the end comes too early.
+fn front_fault(line: u32, tail: &str) -> Option<(ReadKind, u32, u32)> {
+    let len = tail.len();
+    if len == 0 || tail.ends_with('.') {
+        return None;
+    }
+    if len < 3 {
+        return Some((ReadKind::Expected, line, 1));
+    }
+    if len > 7 && len < 12 {
+        return Some((ReadKind::Role, line, 8));
+    }
+    if len > 1000 {
+        return None;
+    }
+    Some((ReadKind::Expected, line, len as u32 + 1))
+}
+
+#[test]
+fn fronts_of_a_problem(rt: HostRuntime) -> Result<(), Fail> {
+    let alloc = rt.alloc();
+    let lines = [
+        "cnf(c1,axiom,p(a)).",
+        "cnf(c2,axiom,~p(X)|q(X)).",
+        "cnf(c3,axiom,~q(a)).",
+    ];
+    let mut before = String::new(alloc);
+    let mut number = 1;
+    for line in lines {
+        for len in 0..=line.len() {
+            let Some(tail) = line.get(..len) else {
+                continue;
+            };
+            let mut text = before.clone()?;
+            text.push_str(tail)?;
+            check(&rt, alloc, text.as_str(), front_fault(number, tail))?;
+        }
+        before.push_str(line)?;
+        before.push_str("\n")?;
+        if number < 3 {
+            number += 1;
+        }
     }
     Ok(())
 }

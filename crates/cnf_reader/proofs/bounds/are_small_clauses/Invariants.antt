@@ -1,4 +1,4 @@
-use Rattle.std.proofs.Common.{◌≤◌, drop, length, All}
+use Rattle.std.proofs.Common.{drop, All}
 use Rattle.cnf_reader.specs.Bounds.{IsSmallClause}
 use Rattle.cnf_reader.proofs.bounds.are_small_clauses.Given as goal
 

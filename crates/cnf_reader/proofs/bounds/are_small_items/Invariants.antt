@@ -1,5 +1,4 @@
 use Rattle.std.proofs.Common.{◌≤◌, drop, length, All}
-use Rattle.cnf_reader.specs.Bounds.{IsSmallClause}
 use Rattle.cnf_reader.proofs.bounds.are_small_items.Given as goal
 
 abbrev pub invariant-loop-item : goal.invariant-loop-item

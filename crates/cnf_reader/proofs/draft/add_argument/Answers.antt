@@ -1,4 +1,4 @@
-use Rattle.std.proofs.Common.{sym, ◌∙◌, ◌≡◌, ◌<◌, length, arith, ap, get_or}
+use Rattle.std.proofs.Common.{sym, ◌∙◌, arith}
 use Rattle.cnf_reader.proofs.Drafting.{past_end, at_variable, at_symbol}
 use Rattle.cnf_reader.proofs.draft.add_argument.Goals as goal
 

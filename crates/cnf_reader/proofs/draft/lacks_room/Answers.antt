@@ -1,4 +1,4 @@
-use Rattle.std.proofs.Common.{arith, ◌∙◌}
+use Rattle.std.proofs.Common.{arith}
 use Rattle.cnf_reader.proofs.Drafting.{room_is}
 use Rattle.cnf_reader.proofs.draft.lacks_room.Goals as goal
 

@@ -1,4 +1,4 @@
-use Rattle.std.proofs.Common.{sym, ◌∙◌, ◌≡◌, length, arith, ap}
+use Rattle.std.proofs.Common.{◌∙◌, ap}
 use Rattle.cnf_grammar.specs.Meaning.{index_of}
 use Rattle.cnf_reader.proofs.Drafting.{number_known, number_new}
 use Rattle.cnf_reader.proofs.draft.number_variable.Goals as goal

@@ -1,4 +1,4 @@
-use Rattle.std.proofs.Common.{◌≡◌, ◌+◌, refl, sym, ap, ◌∙◌, arith, length, drop, get_or, ◌==◌}
+use Rattle.std.proofs.Common.{◌+◌, ap, arith, get_or, ◌==◌}
 use Rattle.tptp_lexer.specs.declared.spot.Spot.{Spot}
 use Rattle.cnf_reader.proofs.Ends.{next_place, passed_all, same_default, bounded}
 use Rattle.cnf_reader.proofs.end.end_of.Goals as goal

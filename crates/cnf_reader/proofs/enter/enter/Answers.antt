@@ -1,4 +1,4 @@
-use Rattle.std.proofs.Common.{refl, sym, ap, arith}
+use Rattle.std.proofs.Common.{refl, arith}
 use Rattle.cnf_reader.proofs.Entered.{too_many, too_deep, not_there, too_large, failed, entered}
 use Rattle.cnf_reader.proofs.enter.enter.Goals as goal
 

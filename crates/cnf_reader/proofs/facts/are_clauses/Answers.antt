@@ -1,4 +1,4 @@
-use Rattle.std.proofs.Common.{arith, sym, ◌∙◌}
+use Rattle.std.proofs.Common.{arith}
 use Rattle.mg_word.specs.Facts.{IsClause}
 use Rattle.cnf_reader.proofs.Checking.{one_more, no_more}
 use Rattle.cnf_reader.proofs.facts.are_clauses.Goals as goal

@@ -1,8 +1,6 @@
-use Rattle.std.proofs.Common.{◌≡◌, ◌<◌, ◌+◌, drop, take, ℕ, IsTrue, All}
-use Rattle.std.specs.List.{list_all, flat_map}
+use Rattle.std.proofs.Common.{◌≡◌, drop}
+use Rattle.std.specs.List.{list_all}
 use Rattle.mg_word.specs.Facts as facts
-use Rattle.mg_word.specs.Forms.{is_among, pattern_variables}
-use Rattle.mg_word.specs.Words.{are_patterns, pattern_fits}
 use Rattle.cnf_reader.proofs.facts.are_items.Given as goal
 
 abbrev pub invariant-loop-item : goal.invariant-loop-item

@@ -1,4 +1,4 @@
-use Rattle.std.proofs.Common.{arith, sym, ◌∙◌}
+use Rattle.std.proofs.Common.{arith}
 use Rattle.cnf_reader.proofs.Checking.{clause_checked}
 use Rattle.cnf_reader.proofs.facts.is_clause.Goals as goal
 

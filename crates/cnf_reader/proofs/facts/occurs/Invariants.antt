@@ -1,8 +1,7 @@
-use Rattle.std.proofs.Common.{◌≡◌, ◌<◌, ◌+◌, drop, take, ℕ, IsTrue, All}
-use Rattle.std.specs.List.{list_all, flat_map}
+use Rattle.std.proofs.Common.{drop, IsTrue}
+use Rattle.std.specs.List.{flat_map}
 use Rattle.mg_word.specs.Facts as facts
-use Rattle.mg_word.specs.Forms.{is_among, pattern_variables}
-use Rattle.mg_word.specs.Words.{are_patterns, pattern_fits}
+use Rattle.mg_word.specs.Forms.{is_among}
 use Rattle.cnf_reader.proofs.facts.occurs.Given as goal
 
 abbrev pub invariant-loop-literal : goal.invariant-loop-literal

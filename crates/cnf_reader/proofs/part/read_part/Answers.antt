@@ -1,5 +1,5 @@
-use Rattle.std.proofs.Common.{◌≡◌, refl, sym, ap, ◌∙◌, Ok, Some, None, nat_le, length}
-use Rattle.tptp_lexer.specs.Tokens.{left_of, IsAt}
+use Rattle.std.proofs.Common.{refl, sym, ap, ◌∙◌, Ok, Some, None}
+use Rattle.tptp_lexer.specs.Tokens.{left_of}
 use Rattle.cnf_reader.specs.Statements.{fresh}
 use Rattle.cnf_reader.proofs.Going.{lex_fault, the_end, token_fault, token_within, clause_ends, include_ends}
 use Rattle.cnf_reader.proofs.part.read_part.Goals as goal

@@ -1,7 +1,7 @@
-use Rattle.std.proofs.Common.{◌≡◌, ◌∙◌, refl, sym, ap, arith}
+use Rattle.std.proofs.Common.{◌∙◌, ap, arith}
 use Rattle.cnf_reader.specs.declared.kept.Kept.{Kept}
-use Rattle.cnf_reader.proofs.Answering.{text_met, include_met, all_read, begun_reaches, not_begun}
-use Rattle.cnf_reader.proofs.Reaching.{clause_read, file_ended, include_entered}
+use Rattle.cnf_reader.proofs.Answering.{include_met, begun_reaches, not_begun}
+use Rattle.cnf_reader.proofs.Reaching.{clause_read, include_entered}
 use Rattle.cnf_reader.proofs.reading.read_files.Goals as goal
 
 pub loop-init : goal.loop-init
