@@ -24,8 +24,8 @@ fn problem_of<F: Files>(alloc: Global, files: &mut F, file: &str) -> Result<Prob
     ensures formed { MatchResult result
         (λ problem. IsTheProblemOf (F.table files.old) file.now problem)
         (λ answer. IsProblemTrouble (F.table files.old) file.now
-            (record { faults = F.faults files.old; absences = F.absences files.old; overruns = F.overruns files.old })
-            (record { faults = F.faults files.new; absences = F.absences files.new; overruns = F.overruns files.new }) answer) }
+        (record { faults = F.faults files.old; absences = F.absences files.old; overruns = F.overruns files.old })
+        (record { faults = F.faults files.new; absences = F.absences files.new; overruns = F.overruns files.new }) answer) }
 {
     let input = match read_problem(alloc, files, file, None) {
         Ok(input) => input,

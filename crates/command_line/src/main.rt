@@ -7,13 +7,14 @@ mod putting;
 mod reporting;
 mod request;
 mod szs_report;
+#[cfg(test)]
+mod tests;
 mod top;
 
 use mg_outside::{StdFiles, StdSink};
 use std::alloc::AllocError;
-use std::env;
-use std::io;
 use std::process::ExitCode;
+use std::{env, io};
 
 /// The status of a run whose words the runtime refused, as words that are no text.
 const NO_WORDS: u8 = 5;
@@ -34,11 +35,5 @@ fn main(rt: HostRuntime) -> ExitCode {
     let mut files = StdFiles::new(&rt);
     let mut out = StdSink::new(rt.stdout());
     let mut err = StdSink::new(rt.stderr());
-    ExitCode::from(top::run_alone(
-        rt.alloc(),
-        &words,
-        &mut files,
-        &mut out,
-        &mut err,
-    ))
+    ExitCode::from(top::run_alone(rt.alloc(), &words, &mut files, &mut out, &mut err))
 }

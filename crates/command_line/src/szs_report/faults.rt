@@ -202,12 +202,23 @@ fn form_words(alloc: Global, clause: &Clause, fault: FormFault) -> Result<Vec<u8
     match fault {
         FormFault::TooHeavy { clause: _, literal } => {
             let literal = format!(in alloc; "{literal}")?;
-            joined(alloc, &[b"clause ", &name, b", literal ", literal.as_bytes(), b": more than 4096 symbols"])
+            joined(
+                alloc,
+                &[
+                    b"clause ",
+                    &name,
+                    b", literal ",
+                    literal.as_bytes(),
+                    b": more than 4096 symbols",
+                ],
+            )
         }
         FormFault::TooManyForms { clause: _ } => joined(alloc, &[b"too many forms"]),
-        FormFault::NotRestricted { clause: _, form, variable } => {
-            unrestricted_words(alloc, &name, form, variable_text(clause, variable))
-        }
+        FormFault::NotRestricted {
+            clause: _,
+            form,
+            variable,
+        } => { unrestricted_words(alloc, &name, form, variable_text(clause, variable)) }
         FormFault::NoMemory => Ok(Vec::new(alloc)),
     }
 }
@@ -229,7 +240,14 @@ fn report_form(
     add_status(&mut out, "Inappropriate", name)?;
     let mut err = Report::new(alloc);
     let file = &input.files.as_slice()[clause.place.file as usize];
-    add_message(alloc, &mut err, file, clause.place.line, clause.place.column, &words)?;
+    add_message(
+        alloc,
+        &mut err,
+        file,
+        clause.place.line,
+        clause.place.column,
+        &words,
+    )?;
     Ok(FaultReport { out, err })
 }
 
@@ -240,7 +258,11 @@ fn faulty_clause(fault: FormFault) -> u32
     match fault {
         FormFault::TooHeavy { clause, literal: _ } => clause,
         FormFault::TooManyForms { clause } => clause,
-        FormFault::NotRestricted { clause, form: _, variable: _ } => clause,
+        FormFault::NotRestricted {
+            clause,
+            form: _,
+            variable: _,
+        } => clause,
         FormFault::NoMemory => 0,
     }
 }
@@ -259,8 +281,14 @@ fn report_tree(
     let mut out = Report::new(alloc);
     add_status(&mut out, value, name)?;
     let mut err = Report::new(alloc);
-    err.add(&[b"mgtp: ", tree.as_bytes(), b": ", words.as_bytes(), b"
-"])?;
+    err.add(&[
+        b"mgtp: ",
+        tree.as_bytes(),
+        b": ",
+        words.as_bytes(),
+        b"
+",
+    ])?;
     Ok(FaultReport { out, err })
 }
 

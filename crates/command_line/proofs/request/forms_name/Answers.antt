@@ -7,9 +7,8 @@ pub returns-then-is_name : goal.returns-then-is_name
 returns-then-is_name c =
     let long : length c.args.words.now ≡ 2 = omega arith in
     let command : string_bytes c.command-item.result ≡ codes "forms" =
-    sym c.as_str.ensures.value ∙ (bytes_eq-Decides c.as_str.result.now (codes "forms")).0 (sym c.eq.ensures ∙ c.if-eq.true) in
-    (
+    sym c.as_str.ensures.value ∙ (bytes_eq-Decides c.as_str.result.now (codes "forms")).0 (sym c.eq.ensures ∙ c.if-eq.true) in (
       rw (c.as_str-file.ensures.value, ← command)
-      (two_words c.args.words.now c.command-item.result c.file-item.result long c.command-item.is c.file-item.is),
+          (two_words c.args.words.now c.command-item.result c.file-item.result long c.command-item.is c.file-item.is),
       sym c.is_name.ensures ∙ c.if-is_name.true,
     )

@@ -1,0 +1,341 @@
+//! Runs over files and sinks in memory. The expected lines are worked out by hand.
+
+use crate::top::run_alone;
+use mg_outside::{FailAt, MemoryFiles, MemorySink};
+use mg_word::Text;
+use std::alloc::Global;
+use std::process::Abort;
+use std::test::Fail;
+
+/// A problem without variables, and a tree of it.
+const GROUND: &str = "cnf(c1,axiom,p|q).\ncnf(c2,axiom,~p).\ncnf(c3,axiom,~q).\n";
+
+const GROUND_TREE: &str = "mgtp tree 1\nroot\nform 1 []\nform 2 []\nform 3 []\n";
+
+/// A problem with terms, and a tree of it.
+const TERMS: &str = "cnf(c1,axiom,p(a)).\ncnf(c2,axiom,~p(X)|q(X)).\ncnf(c3,axiom,~q(a)).\n";
+
+const TERMS_TREE: &str = "mgtp tree 1\nroot\nform 1 []\nform 2 [a]\nform 3 []\n";
+
+// Files in memory with these names and texts, of which the listed reads fail.
+fn memory(alloc: Global, listed: &[(&str, &str)], failing: &[u64]) -> Result<MemoryFiles, Fail> {
+    let mut files: Vec<(Text, Vec<u8>)> = Vec::new(alloc);
+    for (name, text) in listed {
+        files.push((
+            Text::new(Vec::from_slice(alloc, name.as_bytes())?),
+            Vec::from_slice(alloc, text.as_bytes())?,
+        ))?;
+    }
+    Ok(MemoryFiles::new(files, failing.to_vec(alloc)?)?)
+}
+
+// A sink of which the first put fails after so many bytes, where a number is given.
+fn sink(alloc: Global, taken: Option<u64>) -> Result<MemorySink, Fail> {
+    let mut failing = Vec::new(alloc);
+    if let Some(taken) = taken {
+        failing.push(FailAt { call: 1, taken })?;
+    }
+    Ok(MemorySink::new(alloc, 4096, failing)?)
+}
+
+// Runs on the words, and compares the status, the output and the messages. The first put of the
+// output, or of the messages, fails after so many bytes, where a number is given.
+fn compare(
+    rt: &impl Abort,
+    alloc: Global,
+    words: &[&str],
+    files: &mut MemoryFiles,
+    taken: (Option<u64>, Option<u64>),
+    wanted: (u8, &str, &str),
+) -> Result<(), Fail> {
+    let mut given: Vec<String> = Vec::new(alloc);
+    for word in words {
+        given.push(String::from_str(alloc, word)?)?;
+    }
+    let mut out = sink(alloc, taken.0)?;
+    let mut err = sink(alloc, taken.1)?;
+    let status = run_alone(alloc, &given, files, &mut out, &mut err);
+    let (wanted_status, wanted_out, wanted_err) = wanted;
+    assert!(rt;
+        out.held() == wanted_out.as_bytes(),
+        "output, where wanted is {wanted_out}"
+    );
+    assert!(rt;
+        err.held() == wanted_err.as_bytes(),
+        "messages, where wanted is {wanted_err}"
+    );
+    assert!(rt;
+        status == wanted_status,
+        "status, where wanted is {wanted_status}"
+    );
+    Ok(())
+}
+
+// Runs where nothing outside fails.
+fn check(
+    rt: &impl Abort,
+    alloc: Global,
+    words: &[&str],
+    listed: &[(&str, &str)],
+    wanted: (u8, &str, &str),
+) -> Result<(), Fail> {
+    let mut files = memory(alloc, listed, &[])?;
+    compare(rt, alloc, words, &mut files, (None, None), wanted)
+}
+
+#[test]
+fn trees_of_a_ground_problem(rt: HostRuntime) -> Result<(), Fail> {
+    let alloc = rt.alloc();
+    let accepted = "% SZS status Unsatisfiable for r\n% Tree accepted\n";
+    for (tree, status, out) in [
+        (GROUND_TREE, 0, accepted),
+        (
+            "% a remark\nmgtp tree 1\nroot\nform 1 []\n% another\nform 2 []\nform 3 []\n",
+            0,
+            accepted,
+        ),
+        (
+            "mgtp tree 1\nroot\nform 1 []\nform 3 []\nform 3 []\n",
+            1,
+            "% Tree rejected at line 4: premise\n",
+        ),
+        (
+            "mgtp tree 1\nroot\nform 1 []\nform 4 []\nform 3 []\n",
+            1,
+            "% Tree rejected at line 4: no such form\n",
+        ),
+        (
+            "mgtp tree 1\nroot\nform 1 []\nform 2 []\n",
+            1,
+            "% Tree rejected at line 5: early end\n",
+        ),
+        (
+            "mgtp tree 1\nroot\nform 1 []\nby 1\nform 3 []\n",
+            1,
+            "% Tree rejected at line 4: line not built yet\n",
+        ),
+        (
+            "mgtp tree 1\nroot\nform 1 []\nform 2 []\nform 3 []\nroot\n",
+            1,
+            "% Tree rejected at line 6: line after the end\n",
+        ),
+        (
+            "mgtp tree 3\nroot\nform 1 []\nform 2 []\nform 3 []\n",
+            1,
+            "% Tree rejected at line 1: no tree header\n",
+        ),
+        (
+            "mgtp tree 1\nroot\nform 01 []\nform 2 []\nform 3 []\n",
+            1,
+            "% Tree rejected at line 3: line not understood\n",
+        ),
+    ] {
+        let listed = [("r.p", GROUND), ("t", tree)];
+        check(
+            &rt,
+            alloc,
+            &["check", "r.p", "t"],
+            &listed,
+            (status, out, ""),
+        )?;
+    }
+    Ok(())
+}
+
+#[test]
+fn trees_with_terms(rt: HostRuntime) -> Result<(), Fail> {
+    let alloc = rt.alloc();
+    for (tree, status, out) in [
+        (
+            TERMS_TREE,
+            0,
+            "% SZS status Unsatisfiable for m\n% Tree accepted\n",
+        ),
+        (
+            "mgtp tree 1\nroot\nform 1 []\nform 2 [q(a)]\nform 3 []\n",
+            1,
+            "% Tree rejected at line 4: premise\n",
+        ),
+        (
+            "mgtp tree 1\nroot\nform 1 []\nform 2 [b]\nform 3 []\n",
+            1,
+            "% Tree rejected at line 4: unknown symbol\n",
+        ),
+        (
+            "mgtp tree 1\nroot\nform 1 []\nform 2 []\nform 3 []\n",
+            1,
+            "% Tree rejected at line 4: substitution\n",
+        ),
+    ] {
+        let listed = [("dir/m.p", TERMS), ("dir/t", tree)];
+        check(
+            &rt,
+            alloc,
+            &["check", "dir/m.p", "dir/t"],
+            &listed,
+            (status, out, ""),
+        )?;
+    }
+    Ok(())
+}
+
+#[test]
+fn forms_of_problems(rt: HostRuntime) -> Result<(), Fail> {
+    let alloc = rt.alloc();
+    for (text, out) in [
+        ("", "% Forms: 0\n"),
+        ("cnf(c,axiom,$true).", "% Forms: 0\n"),
+        (
+            TERMS,
+            "form 1 c1: -> p(a)\nform 2 c2: p(X1) -> q(X1)\nform 3 c3: q(a) ->\n% Forms: 3\n",
+        ),
+        (
+            "cnf(c1,axiom,q(a)|r(a)).\ncnf(c2,axiom,~p(a)|~q(a),unknown,[conclude([2])]).\n",
+            "form 1 c1: -> q(a); r(a)\nform 2 c2: p(a), q(a) ->\nform 3 c2: p(a) -> ~q(a)\n% Forms: 3\n",
+        ),
+    ] {
+        check(
+            &rt,
+            alloc,
+            &["forms", "r.p"],
+            &[("r.p", text)],
+            (0, out, ""),
+        )?;
+    }
+    Ok(())
+}
+
+#[test]
+fn problems_that_are_refused(rt: HostRuntime) -> Result<(), Fail> {
+    let alloc = rt.alloc();
+    for (text, out, err) in [
+        (
+            "cnf(x,axiom,p('a",
+            "% SZS status SyntaxError for r\n",
+            "mgtp: r.p:1:15: quote not closed\n",
+        ),
+        (
+            "cnf(a,axiom,p(a)",
+            "% SZS status SyntaxError for r\n",
+            "mgtp: r.p:1:17: syntax error\n",
+        ),
+        (
+            "\ncnf(c,question,p).",
+            "% SZS status Inappropriate for r\n",
+            "mgtp: r.p:2:7: role not accepted\n",
+        ),
+        (
+            "cnf(a,axiom,a=b).",
+            "% SZS status Inappropriate for r\n",
+            "mgtp: r.p:1:14: equality not accepted\n",
+        ),
+        (
+            "include('Axioms/X.ax',[one]).",
+            "% SZS status InputError for r\n",
+            "mgtp: r.p:1:9: include file not found: Axioms/X.ax\n",
+        ),
+        (
+            "cnf(a,axiom,p(X)).",
+            "% SZS status Inappropriate for r\n",
+            "mgtp: r.p:1:1: clause a, form 1: variable X of a conclusion is in no premise\n",
+        ),
+    ] {
+        let listed = [("r.p", text), ("t", GROUND_TREE)];
+        check(&rt, alloc, &["forms", "r.p"], &listed, (2, out, err))?;
+        check(&rt, alloc, &["check", "r.p", "t"], &listed, (2, out, err))?;
+    }
+    Ok(())
+}
+
+#[test]
+fn files_that_are_absent(rt: HostRuntime) -> Result<(), Fail> {
+    let alloc = rt.alloc();
+    let absent = (
+        2,
+        "% SZS status InputError for none\n",
+        "mgtp: none.p:1:1: file not found\n",
+    );
+    check(&rt, alloc, &["check", "none.p", "t"], &[], absent)?;
+    check(&rt, alloc, &["forms", "none.p"], &[], absent)?;
+    check(
+        &rt,
+        alloc,
+        &["check", "r.p", "t"],
+        &[("r.p", GROUND)],
+        (
+            2,
+            "% SZS status InputError for r\n",
+            "mgtp: t: file not found\n",
+        ),
+    )
+}
+
+#[test]
+fn words_that_ask_for_no_command(rt: HostRuntime) -> Result<(), Fail> {
+    let alloc = rt.alloc();
+    let refused = (2, "", "usage: mgtp COMMAND FILE\n");
+    let listed = [("r.p", GROUND), ("t", GROUND_TREE)];
+    check(&rt, alloc, &[], &listed, refused)?;
+    check(&rt, alloc, &["check", "r.p"], &listed, refused)?;
+    check(&rt, alloc, &["check", "r.p", "t", "t"], &listed, refused)?;
+    check(&rt, alloc, &["check", "-x", "t"], &listed, refused)?;
+    check(&rt, alloc, &["check", "r.p", "-x"], &listed, refused)?;
+    check(&rt, alloc, &["forms", ""], &listed, refused)?;
+    check(&rt, alloc, &["Forms", "r.p"], &listed, refused)?;
+    check(&rt, alloc, &["show", "r.p"], &listed, refused)?;
+    Ok(())
+}
+
+#[test]
+fn reads_that_fail(rt: HostRuntime) -> Result<(), Fail> {
+    let alloc = rt.alloc();
+    let listed = [("r.p", GROUND), ("t", GROUND_TREE)];
+    for (failing, err) in [
+        (1, "mgtp: r.p:1:1: read failed\n"),
+        (2, "mgtp: t: read failed\n"),
+    ] {
+        let mut files = memory(alloc, &listed, &[failing])?;
+        compare(
+            &rt,
+            alloc,
+            &["check", "r.p", "t"],
+            &mut files,
+            (None, None),
+            (3, "% SZS status OSError for r\n", err),
+        )?;
+    }
+    Ok(())
+}
+
+#[test]
+fn puts_that_fail(rt: HostRuntime) -> Result<(), Fail> {
+    let alloc = rt.alloc();
+    for (taken, out, err) in [
+        ((Some(5), None), "% SZS", ""),
+        (
+            (None, Some(6)),
+            "% SZS status Inappropriate for r\n",
+            "mgtp: ",
+        ),
+    ] {
+        let mut files = memory(alloc, &[("r.p", "cnf(a,axiom,p(X)).\n")], &[])?;
+        compare(
+            &rt,
+            alloc,
+            &["forms", "r.p"],
+            &mut files,
+            taken,
+            (3, out, err),
+        )?;
+    }
+    let mut none = memory(alloc, &[], &[])?;
+    compare(
+        &rt,
+        alloc,
+        &[],
+        &mut none,
+        (None, Some(5)),
+        (3, "", "usage"),
+    )?;
+    Ok(())
+}
