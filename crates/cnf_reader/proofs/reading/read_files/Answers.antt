@@ -1,6 +1,6 @@
 use Rattle.std.proofs.Common.{◌∙◌, ap, arith}
 use Rattle.cnf_reader.specs.declared.kept.Kept.{Kept}
-use Rattle.cnf_reader.proofs.Answering.{include_met, begun_reaches, not_begun}
+use Rattle.cnf_reader.proofs.Answering.{text_met, include_met, begun_reaches, not_begun}
 use Rattle.cnf_reader.proofs.Reaching.{clause_read, include_entered}
 use Rattle.cnf_reader.proofs.reading.read_files.Goals as goal
 
@@ -51,3 +51,8 @@ returns-in-Err-enter-clause-read g c =
     include_met _ _ c.args.name.now c.loop.selections c.loop.kept c.read.new.kept c.loop.file c.in_ok-step.next c.loop.outer c.loop.invariant.reached _ _ _ c.in-Include.asked c.in-Err-enter.fault
     (record { faults = c.loop.invariant.faults; absences = c.loop.invariant.absences; overruns = c.loop.invariant.overruns }) (rw c.in-Include.is at c.in_ok-step.ensures.advances) c.in_ok-step.ensures.stays
     (rw (c.loop.invariant.same, c.len.ensures) at c.in-Err-enter.ensures.entered)
+
+pub returns-in-Fault-clause-read : goal.returns-in-Fault-clause-read
+returns-in-Fault-clause-read g c =
+    text_met _ _ c.args.name.now c.loop.selections c.loop.kept c.read.new.kept c.loop.file c.in_ok-step.next c.loop.outer c.loop.invariant.reached _ _ c.in-Fault.kind c.in-Fault.line c.in-Fault.column c.fault_at.result
+    (rw c.in-Fault.is at c.in_ok-step.ensures.advances) (rw c.name.ensures at c.fault_at.ensures)
