@@ -1,31 +1,33 @@
 #!/bin/sh
 # Measures how fast trees are checked: lines per second, and the time for twice the lines.
-# Use: bench/check_speed.sh PROGRAM [LINES]
+# Use: bench/check_speed.sh PROGRAM [LINES], with at most 1,000,000 lines.
 set -eu
 program=$1
 lines=${2:-1000000}
 folder=$(mktemp -d)
 trap 'rm -rf "$folder"' EXIT
 
-# Each line is nested in the one before.
-cat > "$folder/chain.p" <<'END'
-cnf(start,axiom,p(z)).
-cnf(step,axiom,~p(X)|p(X)).
-cnf(stop,axiom,~p(z)).
-END
+# A thousand constants, each with a fact; a pair of them gives a literal of its own.
+awk 'BEGIN {
+    for (i = 0; i < 1000; i++) print "cnf(fact" i ",axiom,a(c" i "))."
+    print "cnf(pair,axiom,~a(X)|~a(Y)|p(X,Y))."
+    print "cnf(stop,axiom,~a(c0))."
+}' > "$folder/pairs.p"
 
+# One branch: the facts, then as many pairs, so that each line adds a literal that the branch does not have.
 make() {
     awk -v lines="$2" 'BEGIN {
-        print "mgtp tree 1\nroot\nform 1 []"
-        for (i = 0; i < lines; i++) print "form 2 [z]"
-        print "form 3 []"
+        print "mgtp tree 1\nroot"
+        for (i = 1; i <= 1000; i++) print "form " i " []"
+        for (i = 0; i < lines; i++) print "form 1001 [c" int(i / 1000) ",c" (i % 1000) "]"
+        print "form 1002 []"
     }' > "$1"
 }
 
 # Seconds that one call takes.
 seconds() {
     start=$(date +%s%N)
-    "$program" check "$folder/chain.p" "$1" > "$folder/answer"
+    "$program" check "$folder/pairs.p" "$1" > "$folder/answer"
     end=$(date +%s%N)
     grep -q 'Tree accepted' "$folder/answer" || { echo "not accepted" >&2; exit 1; }
     awk -v ns=$((end - start)) 'BEGIN { print ns / 1000000000 }'
