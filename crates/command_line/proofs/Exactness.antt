@@ -1,5 +1,5 @@
 -- Where what is asked for is there and nothing fails, no other answer has its cause.
-use Rattle.std.proofs.Common.{◌≡◌, ◌≢◌, ℕ, List, [], ◌∷◌, codes, Option, Some, None, refl, sym, ◌∙◌, ap, subst, inl, inr, ◌⊎◌}
+use Rattle.std.proofs.Common.{◌≡◌, ℕ, List, Option, Some, None, refl, ◌∙◌, subst, inl, inr, ◌⊎◌}
 use Rattle.mg_word.specs.Facts.{InputData, ProblemData}
 use Rattle.mg_outside.specs.Causes.{Rose}
 use Rattle.mg_outside.specs.Reading.{Table}
@@ -11,16 +11,14 @@ use Rattle.cnf_reader.specs.declared.fault.ReadFault.{ReadFault}
 use Rattle.cnf_reader.specs.declared.fault.ReadFault.TheVariants.{At, NoMemory as NoMemoryToRead}
 use Rattle.clause_form.specs.Faults.{Stands}
 use Rattle.clause_form.specs.declared.fault.FormFault.{FormFault}
-use Rattle.clause_form.specs.declared.fault.FormFault.TheVariants.{NoMemory as NoMemoryToForm}
 use Rattle.clause_form.proofs.Excluding.{fault_excluded as form_fault_excluded}
 use Rattle.tree_checker.specs.Docs.{Accepts}
-use Rattle.tree_checker.specs.declared.doc.Doc.{Doc}
 use Rattle.proof_tree.specs.DocText.{IsDocText}
 use Rattle.command_line.specs.Asking.{Request, Check, Forms, Asks}
 use Rattle.command_line.specs.Printing.{SinkSeen, Printed}
 use Rattle.command_line.specs.Runs.{Outside, Runs}
-use Rattle.command_line.specs.Exact.{Succeeds, NoneFailed, IsExact}
-use Rattle.command_line.specs.Answers.{HasCause, IsUnread, IsUnformed, IsProblemOf, IsAccepted, IsRejected, IsTreeUnread, status_of, IsPrinted}
+use Rattle.command_line.specs.Exact.{Succeeds, IsExact}
+use Rattle.command_line.specs.Answers.{HasCause, IsUnread, IsUnformed, IsProblemOf, IsAccepted, IsRejected, IsTreeUnread, status_of}
 use Rattle.command_line.specs.declared.answer.Answer.{Answer}
 use Rattle.command_line.specs.declared.answer.Answer.TheVariants.{Unread, Unformed, TreeAbsent, TreeFailed, TreeUnread, Rejected, Accepted, Formed, MemoryOut}
 

@@ -1,5 +1,5 @@
 -- The status line of want of memory, as it is put in three pieces.
-use Rattle.std.proofs.Common.{◌≡◌, ℕ, List, [], ◌∷◌, ◌++◌, Some, append_assoc, append-nil, refl, ap, ◌∙◌}
+use Rattle.std.proofs.Common.{◌≡◌, ℕ, List, [], ◌∷◌, ◌++◌, Some, append-nil, ap, ◌∙◌}
 use Rattle.std.specs.Prelude.{codes}
 use Rattle.command_line.specs.Printing.{text_of}
 use Rattle.command_line.specs.Answers.{memory_status}

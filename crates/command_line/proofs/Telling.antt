@@ -1,8 +1,7 @@
 -- How the answers of the parts make that of a command.
 use Rattle.std.proofs.Common.{subst, sym, true≢false, ◌≡◌, ◌≢◌, ◌≤◌, ◌<◌, ℕ, List, ◌∷◌, ◌++◌, length, Option, Some, None, refl, ap, arith, length-append, inl, inr}
 use Rattle.mg_word.specs.Facts.{InputData, ProblemData}
-use Rattle.mg_outside.specs.Causes.{Rose}
-use Rattle.mg_outside.specs.Reading.{Table, IsAbsent}
+use Rattle.mg_outside.specs.Reading.{Table}
 use Rattle.cnf_reader.specs.Reading.{Counts, Reads}
 use Rattle.cnf_reader.proofs.OneReading.{one_input}
 use Rattle.clause_form.specs.Forming.{IsFormed}

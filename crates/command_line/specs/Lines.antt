@@ -1,11 +1,10 @@
 -- The lines of each answer, after the SZS ontology.
-use Rattle.std.specs.Prelude.{ℕ, ◌+◌, List, [], ◌∷◌, ◌++◌, length, slice_get, codes, decimal, string_bytes}
+use Rattle.std.specs.Prelude.{ℕ, List, [], ◌∷◌, ◌++◌, slice_get, codes, decimal}
 use Rattle.std.specs.List.{flat_map}
 use Rattle.std.specs.Option.{option_map_or}
 use Rattle.mg_word.specs.Facts.{InputData}
 use Rattle.mg_word.specs.Spelling.{spelled_name}
 use Rattle.mg_word.specs.declared.clause.Clause.{Clause}
-use Rattle.mg_word.specs.declared.clause.Place.{Place}
 use Rattle.cnf_reader.specs.declared.fault.ReadKind.{ReadKind}
 use Rattle.tptp_lexer.specs.declared.token.LexKind.{LexKind}
 use Rattle.tptp_lexer.specs.declared.token.LexKind.TheVariants.{BadByte, OpenQuote, BadEscape, OpenComment}

@@ -1,5 +1,5 @@
 -- The name of a problem in the lines that are printed.
-use Rattle.std.specs.Prelude.{ℕ, Bool, true, false, ◌&&◌, nat_eq, nat_lt, ◌-◌, List, [], ◌∷◌, length, take, codes, if◌then◌else◌}
+use Rattle.std.specs.Prelude.{ℕ, Bool, ◌&&◌, nat_eq, nat_lt, ◌-◌, List, [], ◌∷◌, length, take, codes, if◌then◌else◌}
 use Rattle.std.specs.List.{list_any, ends_with}
 
 abbrev pub is_stroke : ℕ → Bool

@@ -1,5 +1,5 @@
 -- What the parts of a command may answer. No public clause cites this module.
-use Rattle.std.specs.Prelude.{◌≡◌, ◌≢◌, ℕ, List, Option}
+use Rattle.std.specs.Prelude.{◌≡◌, ℕ, List, Option}
 use Rattle.mg_word.specs.Facts.{ProblemData}
 use Rattle.mg_outside.specs.Causes.{Rose}
 use Rattle.mg_outside.specs.Reading.{Table, IsAbsent}

@@ -1,5 +1,5 @@
 -- Lines, and how they are put.
-use Rattle.std.specs.Prelude.{◌≡◌, ℕ, List, [], ◌∷◌, ◌++◌, Option, ◌⊎◌}
+use Rattle.std.specs.Prelude.{◌≡◌, ℕ, List, Option, ◌⊎◌}
 use Rattle.std.specs.List.{flat_map}
 use Rattle.mg_outside.specs.Causes.{Rose}
 use Rattle.mg_outside.specs.Putting.{Gained, TookFront}

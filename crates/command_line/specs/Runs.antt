@@ -1,13 +1,12 @@
 -- What a run is: the main statement on the top call.
-use Rattle.std.specs.Prelude.{◌≡◌, ℕ, List, [], Option, ◌⊎◌}
+use Rattle.std.specs.Prelude.{ℕ, List, [], Option, ◌⊎◌}
 use Rattle.mg_outside.specs.Reading.{Table}
 use Rattle.cnf_reader.specs.Reading.{Counts}
-use Rattle.command_line.specs.Asking.{Request, Asks, problem_file}
-use Rattle.command_line.specs.Names.{name_of}
+use Rattle.command_line.specs.Asking.{Request, Asks}
 use Rattle.command_line.specs.Lines.{usage_lines}
 use Rattle.command_line.specs.Printing.{SinkSeen, Printed}
 use Rattle.command_line.specs.Requests.{AsksNothing}
-use Rattle.command_line.specs.Answers.{HasCause, answer_out, answer_err, memory_lines, IsPrinted}
+use Rattle.command_line.specs.Answers.{HasCause, memory_lines, IsPrinted}
 use Rattle.command_line.specs.declared.answer.Answer.{Answer}
 
 -- what the outside tells and counts: the files and their counts, the output and the messages

@@ -1,9 +1,8 @@
 -- The lines of what is refused.
-use Rattle.std.specs.Prelude.{◌≡◌, ◌≢◌, ◌<◌, ℕ, List, [], ◌∷◌, length, codes, IsSome, slice_get}
+use Rattle.std.specs.Prelude.{◌≢◌, ◌<◌, ℕ, List, [], ◌∷◌, length, codes}
 use Rattle.command_line.specs.Lines.{status_line, read_value, read_messages, form_messages, tree_message, usage_lines, faulty_clause}
 use Rattle.cnf_reader.specs.declared.fault.ReadFault.{ReadFault}
 use Rattle.cnf_reader.specs.declared.fault.ReadFault.TheVariants.{At, NoMemory as NoMemoryToRead}
-use Rattle.clause_form.specs.declared.fault.FormFault.{FormFault}
 use Rattle.clause_form.specs.declared.fault.FormFault.TheVariants.{NoMemory as NoMemoryToForm}
 use Rattle.command_line.specs.declared.szs_report.faults.Trouble.{Trouble}
 use Rattle.command_line.specs.declared.szs_report.faults.Trouble.TheVariants.{Read, Form, TreeAbsent, TreeFailed, Usage}

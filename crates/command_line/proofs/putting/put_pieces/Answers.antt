@@ -1,4 +1,4 @@
-use Rattle.std.proofs.Common.{drop, ◌+◌, take, [], Bor}
+use Rattle.std.proofs.Common.{drop, ◌+◌, take, []}
 use Rattle.std.specs.List.{flat_map}
 use Rattle.command_line.proofs.Gaining.{TookFront-append, flat_map-split}
 use Rattle.command_line.proofs.putting.put_pieces.Goals as goal

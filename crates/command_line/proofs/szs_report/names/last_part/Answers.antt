@@ -1,6 +1,6 @@
 use Rattle.std.proofs.Common.{sym, drop, arith}
 use Rattle.std.proofs.lemmas.Str.Pattern.{NoCharPasses-char, drop_at_char}
-use Rattle.command_line.proofs.Strokes.{whole_is_last, behind_is_last, stroke_at}
+use Rattle.command_line.proofs.Strokes.{whole_is_last, stroke_at}
 use Rattle.command_line.proofs.szs_report.names.last_part.Goals as goal
 
 pub returns-in-None : goal.returns-in-None

@@ -1,4 +1,3 @@
-use Rattle.std.proofs.Common.{sym}
 use Rattle.command_line.proofs.Strokes.{own_stem}
 use Rattle.command_line.proofs.szs_report.names.stem_of.Goals as goal
 
