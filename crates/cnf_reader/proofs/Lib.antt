@@ -11,3 +11,8 @@ pub mod Answering
 pub mod Checking
 pub mod OneReading
 pub mod Selecting
+pub mod InItems
+pub mod Following
+pub mod Stepping
+pub mod Meant
+pub mod Between

@@ -11,3 +11,4 @@ pub mod Entering
 pub mod Checks
 pub mod Bounds
 pub mod Selecting
+pub mod Meanings

@@ -1,10 +1,20 @@
-//! That reading is a function of the files. The functions do nothing: each is called for what it ensures.
+//! That reading is a function of the files, and that a statement is read as what it means. The functions do nothing: each is
+//! called for what it ensures.
 
-ghost use Rattle.std.specs.Prelude.{◌≡◌, ◌⊎◌, ℕ, List, Option, Some};
+ghost use Rattle.std.specs.Prelude.{◌≡◌, ◌⊎◌, ℕ, Bool, List, Option, Some};
+ghost use Rattle.mg_word.specs.declared.clause.Name.{Name};
+ghost use Rattle.cnf_grammar.specs.declared.mode.Mode.{Mode};
+ghost use Rattle.cnf_grammar.specs.declared.mode.Mode.TheVariants.{Statement};
+ghost use Rattle.cnf_grammar.specs.declared.place.Place.{Place};
 ghost use Rattle.mg_word.specs.Facts.{InputData};
 ghost use Rattle.mg_outside.specs.Reading.{Table};
 ghost use Rattle.cnf_reader.specs.declared.fault.ReadFault.{ReadFault};
+ghost use Rattle.cnf_reader.specs.declared.pending.Pending.{Pending};
 ghost use Rattle.cnf_reader.specs.Reading.{Reads, StandsFirst, IsReadSome};
+ghost use Rattle.cnf_reader.specs.Statements.{fresh};
+ghost use Rattle.cnf_reader.specs.Meanings.{Written, TakesStatement, HoldsItsMeaning};
+
+use cnf_grammar::{each_file_leaves_its_meaning, only_files_are_accepted};
 
 /// Where files are told, a name and a root have exactly one input or exactly one first fault.
 pub fn files_read_as_one_thing()
@@ -13,3 +23,15 @@ pub fn files_read_as_one_thing()
     ensures faults { (told : Table) (name : List ℕ) (root : Option (List ℕ)) (fault other : ReadFault) → StandsFirst (Some told) name root fault → StandsFirst (Some told) name root other → fault ≡ other }
     ensures apart { (told : Table) (name : List ℕ) (root : Option (List ℕ)) (input : InputData) (fault : ReadFault) → Reads (Some told) name root input → StandsFirst (Some told) name root fault → ⊥ }
 {}
+
+/// Wherever between statements the tokens of the next one are taken without a fault up to its dot,
+/// one statement of the grammar spells them, and what is then held is what it means: the name,
+/// literals, variables and conclusions of a clause, the file and the names of an include. Behind the
+/// dot it is between statements again.
+pub fn each_statement_holds_its_meaning()
+    ensures meaning { (is_full : Bool) (selections : List (Option (List Name))) (place : Place) (tokens : List Written) (mode : Mode) (whole : Pending) → place.mode ≡ Statement → TakesStatement is_full selections (fresh place) tokens mode whole → HoldsItsMeaning tokens mode whole }
+    ensures next { (is_full : Bool) (selections : List (Option (List Name))) (place : Place) (tokens : List Written) (mode : Mode) (whole : Pending) → place.mode ≡ Statement → TakesStatement is_full selections (fresh place) tokens mode whole → whole.place.mode ≡ Statement }
+{
+    only_files_are_accepted();
+    each_file_leaves_its_meaning();
+}

@@ -22,5 +22,5 @@ mod tests;
 mod text;
 
 pub use fault::{ReadFault, ReadKind};
-pub use laws::files_read_as_one_thing;
+pub use laws::{each_statement_holds_its_meaning, files_read_as_one_thing};
 pub use reading::read_problem;

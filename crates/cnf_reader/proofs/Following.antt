@@ -1,0 +1,198 @@
+-- Each token that is taken adds to the statement under way what the grammar gathers.
+use Rattle.std.proofs.Common.{◌≡◌, ℕ, zero, suc, Bool, true, false, not, cond, ◌||◌, ◌⊎◌, inl, inr, List, [], ◌∷◌, ◌++◌, map, Option, Some, None, refl, sym, ◌∙◌, ap, subst, codes}
+use Rattle.std.proofs.lemmas.List.{map-append}
+use Rattle.mg_word.specs.declared.clause.Name.{Name}
+use Rattle.cnf_grammar.specs.declared.brackets.Bracket.{Bracket}
+use Rattle.cnf_grammar.specs.declared.mode.Mode.{Mode}
+use Rattle.cnf_grammar.specs.declared.mode.Mode.TheVariants.{Statement, ClauseWord, NameStart, NameRead, RoleStart, RoleRead, FormulaStart, LiteralStart, AtomStart, WordRead, TermStart, TermRead, FormulaClosed, SourceStart, Source, InfoStart, Info, InfoClosed, ClauseClosed, IncludeWord, FileStart, FileRead, SelectionStart, SelectionOpen, SelectedStart, SelectedRead, SelectionClosed, IncludeClosed}
+use Rattle.cnf_grammar.specs.declared.place.Place.{Place}
+use Rattle.cnf_grammar.specs.declared.item.ItemPlace.{ItemPlace}
+use Rattle.cnf_grammar.specs.declared.item.ItemPlace.TheVariants.{Start as item_start}
+use Rattle.cnf_grammar.specs.Shapes.{Shape, Lower, Upper, Quoted, Distinct, Dollar, Number, NotEqual, Punct, left_round, right_round, left_square, right_square, comma, dot, bar, tilde, is_mark, is_bracket, is_name, is_word, is_defined, is_file_name, is_simple_term, is_keyword, is_lower}
+use Rattle.cnf_grammar.specs.Spelling.{closing}
+use Rattle.cnf_grammar.specs.Table.{or_else, when, to, step_at, atom_start, literal_start, after_formula, after_term, any_token, within}
+use Rattle.cnf_grammar.specs.Meaning.{Named, ReadStatement}
+use Rattle.cnf_grammar.specs.Gathering.{Gathered, token_name, token_text, gather_at, gather_item}
+use Rattle.cnf_grammar.specs.Gathering as gathering
+use Rattle.cnf_reader.specs.declared.pending.Pending.{Pending}
+use Rattle.cnf_reader.specs.Faults.{name_of}
+use Rattle.cnf_reader.specs.Statements.{file_text, add_name}
+use Rattle.cnf_reader.specs.Meanings.{name_seen, names_seen}
+use Rattle.cnf_reader.proofs.InItems.{InItem, conclusions}
+
+abbrev pub place : Mode → ℕ → ℕ → List Bracket → Place
+place mode level depth brackets = record { mode = mode; level = level; depth = depth; brackets = brackets }
+
+-- where the opening bracket of a list of names must come
+abbrev pub is_selection_start : Mode → Bool
+is_selection_start SelectionStart = true
+is_selection_start _ = false
+
+-- behind the token that follows a file name
+abbrev pub is_late : Mode → Bool
+is_late SelectionStart = true
+is_late SelectionOpen = true
+is_late SelectedStart = true
+is_late SelectedRead = true
+is_late SelectionClosed = true
+is_late IncludeClosed = true
+is_late _ = false
+
+-- the next place is late exactly where this one is, and not where a list of names must open; a file name and the dot are apart
+abbrev pub forbidden : Mode → Mode → Bool
+forbidden FileRead m = false
+forbidden IncludeClosed m = false
+forbidden SelectionStart m = is_selection_start m || not (is_late m)
+forbidden SelectionOpen m = is_selection_start m || not (is_late m)
+forbidden SelectedStart m = is_selection_start m || not (is_late m)
+forbidden SelectedRead m = is_selection_start m || not (is_late m)
+forbidden SelectionClosed m = is_selection_start m || not (is_late m)
+forbidden _ m = is_late m
+
+abbrev Avoids : (Mode → Bool) → Option Place → Type 0
+Avoids T None = Unit {0}
+Avoids T (Some p) = T p.mode ≡ false
+
+avoid : (T : Mode → Bool) (test : Bool) (p : Place) (o : Option Place) → T p.mode ≡ false → Avoids T o → Avoids T (or_else test p o)
+avoid T true p o h k = h
+avoid T false p o h k = k
+
+avoid_or_none : (T : Mode → Bool) (test : Bool) (o : Option Place) → Avoids T o → Avoids T (cond test None o)
+avoid_or_none T true o h = tt
+avoid_or_none T false o h = h
+
+avoid_any : (p : Place) (s : Shape) → is_late p.mode ≡ false → Avoids is_late (any_token p s)
+avoid_any p s h = avoid is_late (is_mark left_round s) _ _ h (avoid is_late (is_mark left_square s) _ _ h (avoid is_late (not (is_bracket s)) p None h tt))
+
+avoid_within : (bracket : Bracket) (outer : List Bracket) (p : Place) (s : Shape) → is_late p.mode ≡ false → Avoids is_late (within bracket outer p s)
+avoid_within bracket outer p s h = avoid is_late (is_mark (closing bracket) s) _ _ h (avoid_any p s h)
+
+avoid_atom : (p : Place) (s : Shape) → Avoids is_late (atom_start p s)
+avoid_atom p s = avoid is_late (is_word s) _ _ refl (avoid is_late (is_defined (codes "$true") s || is_defined (codes "$false") s) _ None refl tt)
+
+avoid_literal : (p : Place) (s : Shape) → Avoids is_late (literal_start p s)
+avoid_literal p s = avoid is_late (is_mark tilde s) _ _ refl (avoid_atom p s)
+
+avoid_formula : (level : ℕ) (p : Place) (s : Shape) → Avoids is_late (after_formula level p s)
+avoid_formula zero p s = avoid is_late (is_mark comma s) _ _ refl (avoid is_late (is_mark right_round s) _ None refl tt)
+avoid_formula (suc level) p s = avoid is_late (is_mark right_round s) _ None refl tt
+
+avoid_term : (depth : ℕ) (p : Place) (s : Shape) → Avoids is_late (after_term depth p s)
+avoid_term zero p s = avoid is_late (is_mark bar s) _ _ refl (avoid_formula p.level (to FormulaClosed p) s)
+avoid_term (suc depth) p s = avoid is_late (is_mark comma s) _ _ refl (avoid is_late (is_mark right_round s) _ None refl tt)
+
+avoids : (mode : Mode) (level depth : ℕ) (brackets : List Bracket) (s : Shape) → Avoids (forbidden mode) (step_at mode (place mode level depth brackets) s)
+avoids Statement level depth brackets s = avoid is_late (is_keyword (codes "cnf") s) _ _ refl (avoid is_late (is_keyword (codes "include") s) _ None refl tt)
+avoids ClauseWord level depth brackets s = avoid is_late (is_mark left_round s) _ None refl tt
+avoids NameStart level depth brackets s = avoid is_late (is_name s) _ None refl tt
+avoids NameRead level depth brackets s = avoid is_late (is_mark comma s) _ None refl tt
+avoids RoleStart level depth brackets s = avoid is_late (is_lower s) _ None refl tt
+avoids RoleRead level depth brackets s = avoid is_late (is_mark comma s) _ None refl tt
+avoids FormulaStart level depth brackets s = avoid is_late (is_mark left_round s) _ _ refl (avoid_literal (place FormulaStart level depth brackets) s)
+avoids LiteralStart level depth brackets s = avoid_literal (place LiteralStart level depth brackets) s
+avoids AtomStart level depth brackets s = avoid_atom (place AtomStart level depth brackets) s
+avoids WordRead level depth brackets s = avoid is_late (is_mark left_round s) _ _ refl (avoid_term depth (place TermRead level depth brackets) s)
+avoids TermStart level depth brackets s = avoid is_late (is_simple_term s) _ _ refl (avoid is_late (is_word s) _ None refl tt)
+avoids TermRead level depth brackets s = avoid_term depth (place TermRead level depth brackets) s
+avoids FormulaClosed level depth brackets s = avoid_formula level (place FormulaClosed level depth brackets) s
+avoids SourceStart level depth brackets s = avoid_or_none is_late (is_mark comma s) _ (avoid_any (place Source level depth []) s refl)
+avoids Source level depth [] s = avoid is_late (is_mark comma s) _ _ refl (avoid is_late (is_mark right_round s) _ _ refl (avoid_any (place Source level depth []) s refl))
+avoids Source level depth (bracket ∷ outer) s = avoid_within bracket outer (place Source level depth (bracket ∷ outer)) s refl
+avoids InfoStart level depth brackets s = avoid is_late (is_mark left_square s) _ None refl tt
+avoids Info level depth [] s = avoid is_late (is_mark right_square s) _ _ refl (avoid_any (place Info level depth []) s refl)
+avoids Info level depth (bracket ∷ outer) s = avoid_within bracket outer (place Info level depth (bracket ∷ outer)) s refl
+avoids InfoClosed level depth brackets s = avoid is_late (is_mark right_round s) _ None refl tt
+avoids ClauseClosed level depth brackets s = avoid is_late (is_mark dot s) _ None refl tt
+avoids IncludeWord level depth brackets s = avoid is_late (is_mark left_round s) _ None refl tt
+avoids FileStart level depth brackets s = avoid is_late (is_file_name s) _ None refl tt
+avoids FileRead level depth brackets s = avoid (forbidden FileRead) (is_mark comma s) _ _ refl (avoid (forbidden FileRead) (is_mark right_round s) _ None refl tt)
+avoids SelectionStart level depth brackets s = avoid (forbidden SelectionStart) (is_mark left_square s) _ None refl tt
+avoids SelectionOpen level depth brackets s = avoid (forbidden SelectionOpen) (is_name s) _ _ refl (avoid (forbidden SelectionOpen) (is_mark right_square s) _ None refl tt)
+avoids SelectedStart level depth brackets s = avoid (forbidden SelectedStart) (is_name s) _ None refl tt
+avoids SelectedRead level depth brackets s = avoid (forbidden SelectedRead) (is_mark comma s) _ _ refl (avoid (forbidden SelectedRead) (is_mark right_square s) _ None refl tt)
+avoids SelectionClosed level depth brackets s = avoid (forbidden SelectionClosed) (is_mark right_round s) _ None refl tt
+avoids IncludeClosed level depth brackets s = avoid (forbidden IncludeClosed) (is_mark dot s) _ None refl tt
+
+pub goes_there : (mode : Mode) (level depth : ℕ) (brackets : List Bracket) (s : Shape) (next : Place) → step_at mode (place mode level depth brackets) s ≡ Some next → forbidden mode next.mode ≡ false
+goes_there mode level depth brackets s next goes = subst (Avoids (forbidden mode)) goes (avoids mode level depth brackets s)
+
+pub true_false : (b : Bool) → b ≡ true → b ≡ false → ⊥
+true_false b h k = cc
+
+early_no_start : (mode : Mode) → is_late mode ≡ false → is_selection_start mode ≡ false
+early_no_start SelectionStart h = cc
+early_no_start mode h = refl
+
+late_parts : (a b : Bool) → (a || not b) ≡ false → (a ≡ false) × (b ≡ true)
+late_parts true b h = cc
+late_parts false true h = (refl, refl)
+late_parts false false h = cc
+
+-- the names that were read; where the opening bracket of their list must come, the grammar has the list already
+pub record NamesFollow (mode : Mode) (read : Option (List Name)) (names : Option (List Named)) : Type 0 where
+  pub opening : is_selection_start mode ≡ true → names ≡ Some []
+  pub same : is_selection_start mode ≡ false → names_seen read ≡ names
+  pub early : is_late mode ≡ false → names ≡ None
+
+pub names_early : (mode : Mode) (read : Option (List Name)) (names : Option (List Named)) → is_late mode ≡ false → names_seen read ≡ names → names ≡ None → NamesFollow mode read names
+names_early mode read names h same none = record { opening = λ e. absurd (true_false (is_selection_start mode) e (early_no_start mode h)); same = λ e. same; early = λ e. none }
+
+pub names_late : (mode : Mode) (read : Option (List Name)) (names : Option (List Named)) → (is_selection_start mode || not (is_late mode)) ≡ false → names_seen read ≡ names → NamesFollow mode read names
+names_late mode read names h same =
+    let parts = late_parts (is_selection_start mode) (is_late mode) h in
+    record { opening = λ e. absurd (true_false (is_selection_start mode) e parts.0); same = λ e. same; early = λ e. absurd (true_false (is_late mode) parts.1 e) }
+
+-- no item is under way
+abbrev pub NoItem : ItemPlace → List ℕ → List Shape → Type 0
+NoItem item chosen tokens = (item ≡ item_start) × (tokens ≡ []) × (chosen ≡ [])
+
+-- in an info the item is followed, and elsewhere none is under way
+abbrev pub ItemFollows : Mode → List Bracket → ItemPlace → List ℕ → List Shape → Type 0
+ItemFollows mode brackets item chosen tokens = ((mode ≡ Info) × InItem brackets item chosen tokens) ⊎ NoItem item chosen tokens
+
+-- in an info either way
+pub in_item : (mode : Mode) (brackets : List Bracket) (item : ItemPlace) (chosen : List ℕ) (tokens : List Shape) → ItemFollows mode brackets item chosen tokens → InItem brackets item chosen tokens
+in_item mode brackets item chosen tokens (inl h) = h.1
+in_item mode brackets item chosen tokens (inr h) = subst (λ x. InItem brackets x chosen tokens) (sym h.0) (h.1, h.2)
+
+-- the statement under way holds what was gathered
+pub record Follows (before : List ReadStatement) (mode : Mode) (brackets : List Bracket) (p : Pending) (g : Gathered) : Type 0 where
+  pub statements : g.statements ≡ before
+  pub name : name_seen p.name ≡ g.name
+  pub draft : p.draft ≡ g.formula
+  pub file : p.asked.file ≡ g.file
+  pub names : NamesFollow mode p.asked.names g.names
+  pub conclude : p.conclude ≡ conclusions g.items
+  pub item : ItemFollows mode brackets p.item p.chosen g.item
+
+-- the same name, file and names by the two ways to see a token
+pub name_same : (s : Shape) → name_seen (name_of s) ≡ token_name s
+name_same (Lower text) = refl
+name_same (Quoted text) = refl
+name_same (Number text plain) = refl
+name_same (Upper text) = refl
+name_same (Distinct text) = refl
+name_same (Dollar text) = refl
+name_same NotEqual = refl
+name_same (Punct byte) = refl
+
+pub file_same : (s : Shape) (p next : Place) → when (is_file_name s) p ≡ Some next → file_text s ≡ token_text s
+file_same (Lower text) p next h = refl
+file_same (Quoted text) p next h = refl
+file_same (Number text plain) p next h = absurd cc
+file_same (Upper text) p next h = refl
+file_same (Distinct text) p next h = refl
+file_same (Dollar text) p next h = refl
+file_same NotEqual p next h = refl
+file_same (Punct byte) p next h = refl
+
+pub names_same : (s : Shape) (read : Option (List Name)) (names : Option (List Named)) → names_seen read ≡ names → names_seen (add_name (name_of s) read) ≡ gathering.with_name names (token_name s)
+names_same s None names h = ap (λ n. Some (n ∷ [])) (name_same s) ∙ ap (λ u. gathering.with_name u (token_name s)) h
+names_same s (Some read) names h =
+    ap Some (map-append name_seen read (name_of s ∷ []))
+    ∙ (ap (λ n. Some (map name_seen read ++ n ∷ [])) (name_same s) ∙ ap (λ u. gathering.with_name u (token_name s)) h)
+
+-- behind an item, no item is under way
+pub outside_info : (mode : Mode) (brackets : List Bracket) (item : ItemPlace) (chosen : List ℕ) (tokens : List Shape) → (mode ≡ Info → ⊥) → ItemFollows mode brackets item chosen tokens → NoItem item chosen tokens
+outside_info mode brackets item chosen tokens h (inl k) = absurd (h k.0)
+outside_info mode brackets item chosen tokens h (inr k) = k
