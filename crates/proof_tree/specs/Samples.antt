@@ -1,14 +1,12 @@
--- The problem of the tests: the clauses `p(a)`, `~p(a) | q(a)` and `~q(a)`.
+-- The input of the tests: the clauses `p(a)`, `~p(a) | q(a)` and `~q(a)`.
 use Rattle.std.specs.Prelude.{Bool, true, false, ℕ, List, [], ◌∷◌, codes}
 use Rattle.mg_word.specs.Table.{Symbol, symbol_of}
-use Rattle.mg_word.specs.Facts.{ProblemData}
 use Rattle.mg_word.specs.declared.item.Item.TheVariants.{Sym}
 use Rattle.mg_word.specs.declared.symbol.Kind.TheVariants.{Word, Integer, Distinct}
 use Rattle.mg_word.specs.declared.lit.PatLit.{PatLit}
 use Rattle.mg_word.specs.declared.clause.ClauseLit.{ClauseLit}
 use Rattle.mg_word.specs.declared.clause.ClauseLit.TheVariants.{Lit as Literal}
 use Rattle.mg_word.specs.declared.clause.Clause.{Clause}
-use Rattle.mg_word.specs.declared.form.Form.{Form}
 
 abbrev pub sample_symbols : List Symbol
 sample_symbols =
@@ -27,15 +25,6 @@ clause_of literals = record {
   conclude = [];
 }
 
-abbrev pub form_of : ℕ → List PatLit → List PatLit → Form
-form_of clause premises conclusions = record { clause = clause; variables = 0; premises = premises; conclusions = conclusions }
-
 abbrev pub sample_clauses : List Clause
 sample_clauses =
     clause_of (Literal (atom_of false 0) ∷ []) ∷ clause_of (Literal (atom_of true 0) ∷ Literal (atom_of false 2) ∷ []) ∷ clause_of (Literal (atom_of true 2) ∷ []) ∷ []
-
-abbrev pub sample_forms : List Form
-sample_forms = form_of 0 [] (atom_of false 0 ∷ []) ∷ form_of 1 (atom_of false 0 ∷ []) (atom_of false 2 ∷ []) ∷ form_of 2 (atom_of false 2 ∷ []) [] ∷ []
-
-abbrev pub sample : ProblemData
-sample = record { symbols = sample_symbols; files = [] ∷ []; clauses = sample_clauses; forms = sample_forms }

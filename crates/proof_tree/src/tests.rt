@@ -1,12 +1,13 @@
 //! Texts by hand over one small problem, each with the answer that the format gives it.
 
 ghost use Rattle.std.specs.Prelude.{◌≡◌, ◌≤◌, [], ◌∷◌, false, true, IfOk};
-ghost use Rattle.proof_tree.specs.Samples.{sample, sample_symbols, sample_clauses, sample_forms, atom_of, clause_of, form_of};
+ghost use Rattle.proof_tree.specs.Samples.{sample_symbols, sample_clauses, atom_of, clause_of};
 ghost use Rattle.mg_word.specs.declared.clause.ClauseLit.TheVariants.{Lit as Literal};
 
 use crate::read_doc;
+use clause_form::forms_of;
 use mg_word::{
-    Clause, ClauseLit, Form, Item, Items, Kind, Name, NoMemory, PatLit, Pattern, Place, Problem,
+    Clause, ClauseLit, Input, Item, Items, Kind, Name, NoMemory, PatLit, Pattern, Place, Problem,
     Symbols, Text,
 };
 use std::alloc::Global;
@@ -22,14 +23,6 @@ fn atom(alloc: Global, negative: bool, predicate: u32) -> Result<PatLit, NoMemor
         negative,
         pattern: Pattern::new(items),
     })
-}
-
-fn atoms(alloc: Global, predicate: u32) -> Result<Items<PatLit>, NoMemory>
-    ensures { IfOk result (λ lits. lits ≡ atom_of false predicate ∷ []) }
-{
-    let mut lits = Items::empty(alloc);
-    lits.push(atom(alloc, false, predicate)?)?;
-    Ok(lits)
 }
 
 fn clause(alloc: Global, literals: Items<ClauseLit>) -> Clause
@@ -78,27 +71,6 @@ fn clauses(alloc: Global) -> Result<Items<Clause>, NoMemory>
     Ok(clauses)
 }
 
-fn form(clause: u32, premises: Items<PatLit>, conclusions: Items<PatLit>) -> Form
-    ensures { result ≡ form_of clause premises conclusions }
-{
-    Form {
-        clause,
-        variables: 0,
-        premises,
-        conclusions,
-    }
-}
-
-fn forms(alloc: Global) -> Result<Items<Form>, NoMemory>
-    ensures { IfOk result (λ forms. forms ≡ sample_forms) }
-{
-    let mut forms = Items::empty(alloc);
-    forms.push(form(0, Items::empty(alloc), atoms(alloc, 0)?))?;
-    forms.push(form(1, atoms(alloc, 0)?, atoms(alloc, 2)?))?;
-    forms.push(form(2, atoms(alloc, 2)?, Items::empty(alloc)))?;
-    Ok(forms)
-}
-
 fn symbols(alloc: Global) -> Result<Symbols, NoMemory>
     ensures { IfOk result (λ symbols. symbols ≡ sample_symbols) }
 {
@@ -124,13 +96,15 @@ fn problem(alloc: Global) -> Result<Problem, NoMemory> {
     let symbols = symbols(alloc)?;
     let files = files(alloc)?;
     let clauses = clauses(alloc)?;
-    let forms = forms(alloc)?;
-    Ok(Problem {
+    let input = Input {
         symbols,
         files,
         clauses,
-        forms,
-    })
+    };
+    match forms_of(alloc, &input) {
+        Ok(problem) => Ok(problem),
+        Err(_) => Err(NoMemory),
+    }
 }
 
 // How many lines the tree of the text has, or its fault.
