@@ -1,5 +1,5 @@
 -- The variables of lists of items and literals, one more at a time.
-use Rattle.std.proofs.Common.{◌≡◌, ℕ, ◌+◌, ◌<◌, ◌≤◌, Bool, true, false, ◌&&◌, ◌||◌, not, List, [], ◌∷◌, ◌++◌, length, get_or, take, refl, sym, ◌∙◌, ap, subst, arith, Option, Some, None, nat_lt, nat_eq, if◌then◌else◌}
+use Rattle.std.proofs.Common.{append-nil, ◌≡◌, ℕ, ◌+◌, ◌<◌, ◌≤◌, Bool, true, false, ◌&&◌, ◌||◌, not, List, [], ◌∷◌, ◌++◌, length, get_or, take, refl, sym, ◌∙◌, ap, subst, arith, Option, Some, None, nat_lt, nat_eq, if◌then◌else◌}
 use Rattle.std.proofs.lemmas.List.{take_more}
 use Rattle.std.proofs.lemmas.List.Folds.{list_any-append, list_any_at}
 use Rattle.std.proofs.lemmas.Grind.{flat_map-append}
@@ -8,19 +8,18 @@ use Rattle.std.specs.List.{flat_map, list_any, list_all}
 use Rattle.mg_word.specs.Forms.{is_among, is_restricted, lits_variables}
 use Rattle.mg_word.specs.declared.form.Form.{Form}
 use Rattle.mg_word.specs.declared.lit.PatLit.{PatLit}
+use Rattle.mg_word.proofs.Members.{both_true}
 use Rattle.clause_form.specs.Free.{is_free, IsLeastFrom, IsLeastFree, lesser}
 
+-- a number is among two lists where it is among one
 pub among-append : (a b : List ℕ) (v : ℕ) → is_among (a ++ b) v ≡ (is_among a v || is_among b v)
 among-append a b v = list_any-append _ a b
-
-pub append-nil : {A : Type 0} (a : List A) → a ++ [] ≡ a
-append-nil [] = refl
-append-nil (x ∷ a) = ap (λ r. x ∷ r) (append-nil a)
 
 -- what the next element adds
 pub flat_map-next : {X A : Type 0} (f : X → List A) (xs : List X) (i : ℕ) (d : X) → i < length xs → flat_map f (take (i + 1) xs) ≡ flat_map f (take i xs) ++ f (get_or xs i d)
 flat_map-next f xs i d h = ap (flat_map f) (take_more xs i d h) ∙ flat_map-append f (take i xs) (get_or xs i d ∷ []) ∙ ap (λ r. flat_map f (take i xs) ++ r) (append-nil (f (get_or xs i d)))
 
+-- a number is among the parts of one element more where it is among its part
 pub among_next : {X : Type 0} (f : X → List ℕ) (xs : List X) (i v : ℕ) (d : X) → i < length xs → is_among (flat_map f (take (i + 1) xs)) v ≡ (is_among (flat_map f (take i xs)) v || is_among (f (get_or xs i d)) v)
 among_next f xs i v d h = ap (λ r. is_among r v) (flat_map-next f xs i d h) ∙ among-append (flat_map f (take i xs)) (f (get_or xs i d)) v
 
@@ -72,10 +71,7 @@ all_among_head : (x v : ℕ) (xs ys : List ℕ) (same_one : Bool) → nat_eq x v
 all_among_head x v xs ys true e among rest = rw (← same x v e) (rw among refl)
 all_among_head x v xs ys false e among rest = rest
 
-pub both_true : (a b : Bool) → (a && b) ≡ true → (a ≡ true) × (b ≡ true)
-both_true true b e = (refl, e)
-both_true false b e = cc
-
+-- where each number is among the others, none is there alone
 pub all_among : (xs ys : List ℕ) → list_all (λ v. is_among ys v) xs ≡ true → (v : ℕ) → (is_among xs v && not (is_among ys v)) ≡ false
 all_among [] ys e v = refl
 all_among (x ∷ xs) ys e v =
@@ -91,6 +87,7 @@ later_none true true c e = e
 later_none true false c e = refl
 later_none false b c e = e
 
+-- and the other way round
 pub none_among : (xs ys : List ℕ) → ((v : ℕ) → (is_among xs v && not (is_among ys v)) ≡ false) → list_all (λ v. is_among ys v) xs ≡ true
 none_among [] ys none = refl
 none_among (x ∷ xs) ys none =
@@ -136,6 +133,7 @@ least_is_free form from v before found missing = record {
 pub none_next : (form : Form) (from v : ℕ) → ((other : ℕ) → other < from → is_free form other ≡ false) → IsLeastFrom (lits_variables form.conclusions) from (Some v) → is_among (lits_variables form.premises) v ≡ true → (other : ℕ) → other < v + 1 → is_free form other ≡ false
 none_next form from v before found held other h = next_held form from v before found held other h (nat_eq other v) refl
 
+-- where nothing is left, no variable is free
 pub none_left : (form : Form) (from : ℕ) → ((other : ℕ) → other < from → is_free form other ≡ false) → IsLeastFrom (lits_variables form.conclusions) from None → (other : ℕ) → is_free form other ≡ false
 none_left form from before none other = left_free form from before none other (nat_lt other from) refl
 
@@ -146,11 +144,13 @@ some_free form conclusions premises from v found held ce pe before least is he h
     let at_form : IsLeastFrom (lits_variables form.conclusions) from (Some v) = subst (λ (lits : List PatLit). IsLeastFrom (lits_variables lits) from (Some v)) ce at_some in
     least_is_free form from v before at_form (ap (λ (lits : List PatLit). is_among (lits_variables lits) v) (sym pe) ∙ sym he ∙ hf)
 
+-- where the search finds no more, the form is restricted
 pub no_free : (form : Form) (conclusions : List PatLit) (from : ℕ) (found : Option ℕ) → conclusions ≡ form.conclusions → ((other : ℕ) → other < from → is_free form other ≡ false) → IsLeastFrom (lits_variables conclusions) from found → found ≡ None → is_restricted form ≡ true
 no_free form conclusions from found ce before least is =
     let at_none : IsLeastFrom (lits_variables conclusions) from None = subst (IsLeastFrom (lits_variables conclusions) from) is least in
     let at_form : IsLeastFrom (lits_variables form.conclusions) from None = subst (λ (lits : List PatLit). IsLeastFrom (lits_variables lits) from None) ce at_none in
     none_restricted form (none_left form from before at_form)
 
+-- a form with a free variable is not restricted
 pub not_restricted : (form : Form) (v : ℕ) → IsLeastFree form v → is_restricted form ≡ true → true ≡ false
 not_restricted form v least e = sym least.free ∙ restricted_none form e v

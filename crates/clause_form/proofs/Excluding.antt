@@ -12,7 +12,8 @@ use Rattle.mg_word.specs.Facts.{most_forms}
 use Rattle.clause_form.specs.Faults.{is_light, is_light_clause, is_faultless, IsFirstHeavy, IsReached, Stands}
 use Rattle.clause_form.specs.declared.fault.FormFault.{FormFault}
 use Rattle.clause_form.specs.declared.fault.FormFault.TheVariants.{TooHeavy, TooManyForms, NotRestricted, NoMemory}
-use Rattle.clause_form.proofs.Among.{both_true, not_restricted}
+use Rattle.mg_word.proofs.Members.{both_true}
+use Rattle.clause_form.proofs.Among.{not_restricted}
 use Rattle.clause_form.proofs.Reaching.{forms_from-append}
 
 -- what holds of all holds of one between others

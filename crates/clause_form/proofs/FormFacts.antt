@@ -6,7 +6,7 @@ use Rattle.std.specs.List.{list_all}
 use Rattle.mg_word.specs.Table.{Symbol}
 use Rattle.mg_word.specs.Words.{pattern_fits, numbered}
 use Rattle.mg_word.specs.Forms.{premises_of, conclusions_of, others_from, chosen_from, is_always_true, is_among, opposite, plain_form, further_form, clause_forms, forms_from, forms_of}
-use Rattle.mg_word.specs.Facts.{IsClause, literal_fits, is_light_lit, is_light_form}
+use Rattle.mg_word.specs.Facts.{IsClause, ProblemData, literal_fits, is_light_lit, is_light_form}
 use Rattle.clause_form.specs.Faults.{is_light, is_light_clause}
 use Rattle.clause_form.proofs.InputFacts.{list_all-from_All}
 use Rattle.std.proofs.lemmas.List.Folds.{list_all-append}
@@ -17,7 +17,7 @@ use Rattle.mg_word.specs.declared.clause.Clause.{Clause}
 use Rattle.mg_word.specs.declared.form.Form.{Form}
 use Rattle.std.specs.Option.{option_map, option_and_then}
 use Rattle.clause_form.specs.Lines.{IsSpelled, form_line, line_of}
-use Rattle.clause_form.proofs.Among.{both_true}
+use Rattle.mg_word.proofs.Members.{both_true}
 
 abbrev pub lit_fits : List Symbol → ℕ → PatLit → Bool
 lit_fits table variables lit = pattern_fits table variables lit.pattern
@@ -139,10 +139,19 @@ four_added start a b c d second third fourth last e1 e2 e3 e4 e5 =
     e5 ∙ ap (λ r. r ++ d) (e4 ∙ ap (λ r. r ++ c) (e3 ∙ ap (λ r. r ++ b) (e2 ∙ ap (λ r. r ++ a) e1))) ∙ append_assoc (a ++ b) c d ∙ append_assoc a b (c ++ d)
 
 -- a form of a problem, by its index
-pub right_at : (table : List Symbol) (files : ℕ) (clauses : List Clause) (forms slice : List Form) (k : ℕ) (form : Form) → All (IsClause table files) clauses → forms ≡ forms_of clauses → slice ≡ forms → k < length slice → form ≡ get_or slice k form → IsRight table (length clauses) form
+right_at : (table : List Symbol) (files : ℕ) (clauses : List Clause) (forms slice : List Form) (k : ℕ) (form : Form) → All (IsClause table files) clauses → forms ≡ forms_of clauses → slice ≡ forms → k < length slice → form ≡ get_or slice k form → IsRight table (length clauses) form
 right_at table files clauses forms slice k form all formed slice_is h is =
     let at_slice : All (IsRight table (length clauses)) slice = subst (λ (fs : List Form). All (IsRight table (length clauses)) fs) (sym (slice_is ∙ formed)) (forms_right table files clauses all) in
     subst (λ f. IsRight table (length clauses) f) (sym is) (at_slice k form h)
+
+-- a form of a problem, by its number
+pub numbered_right : (problem : ProblemData) (table : List Symbol) (files : List (List ℕ)) (clauses : List Clause) (forms slice : List Form) (number : ℕ) (form : Form)
+    → record { symbols = table; files = files; clauses = clauses; forms = forms } ≡ problem → All (IsClause table (length files)) clauses → forms ≡ forms_of clauses → slice ≡ forms → 0 < number → number ≤ length problem.forms → form ≡ get_or slice (number - 1) form
+    → (number ≤ length forms) × IsRight table (length clauses) form
+numbered_right problem table files clauses forms slice number form view all formed slice_is above within is =
+    let place : number ≤ length forms = subst (λ (p : ProblemData). number ≤ length p.forms) (sym view) within in
+    let count : length slice ≡ length forms = ap (λ (fs : List Form). length fs) slice_is in
+    (place, right_at table (length files) clauses forms slice (number - 1) form all formed slice_is (omega (arith, place, count, above)) is)
 
 -- the line of a problem's form
 pub line_at : (symbols : List Symbol) (files : List (List ℕ)) (clauses : List Clause) (forms : List Form) (number : ℕ) (form : Form) (clause : Clause) (text : List ℕ) → 0 < number → number ≤ length forms → form ≡ get_or forms (number - 1) form → form.clause < length clauses → clause ≡ get_or clauses form.clause clause

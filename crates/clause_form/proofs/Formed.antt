@@ -5,17 +5,18 @@ use Rattle.std.proofs.lemmas.List.Elements.{All-map, All-weaker}
 use Rattle.std.specs.List.{list_all}
 use Rattle.mg_word.specs.Table.{Symbol}
 use Rattle.mg_word.specs.Forms.{forms_of, is_restricted}
-use Rattle.mg_word.specs.Facts.{InputData, ProblemData, IsClause, IsInput, IsProblem, is_light_form, most_forms}
+use Rattle.mg_word.specs.Facts.{InputData, ProblemData, IsClause, IsInput, IsNarrow, IsProblem, is_light_form, most_forms}
 use Rattle.mg_word.specs.SymbolOrder.{IsSortedTable}
 use Rattle.mg_word.specs.declared.clause.Clause.{Clause}
 use Rattle.mg_word.specs.declared.form.Form.{Form}
+use Rattle.mg_word.proofs.Narrow.{forms_narrow}
 use Rattle.clause_form.specs.Building.{HasFewParts}
 use Rattle.clause_form.specs.Faults.{is_light_clause, is_faultless, Stands}
 use Rattle.clause_form.specs.Forming.{IsFormed}
 use Rattle.clause_form.specs.Renumbering.{clause_renumbered, renumbered}
 use Rattle.clause_form.specs.declared.fault.FormFault.{FormFault}
 use Rattle.clause_form.specs.declared.fault.FormFault.TheVariants.{NoMemory}
-use Rattle.clause_form.proofs.Among.{both_true}
+use Rattle.mg_word.proofs.Members.{both_true}
 use Rattle.clause_form.proofs.Excluding.{fault_excluded, few_of}
 use Rattle.clause_form.proofs.FormFacts.{light_forms}
 use Rattle.clause_form.proofs.InputFacts.{clause_kept, symbols_kept}
@@ -57,6 +58,9 @@ made_problem before files clauses after n files' clauses' forms' facts made =
       input = subst (λ (cs : List Clause). IsInput after files' cs) (sym made.clauses_are) kept_files;
       formed = made.forms_are;
       restricted = ap (list_all is_restricted) made.forms_are ∙ inner.1;
+      narrow =
+          subst (All IsNarrow) (sym made.forms_are)
+          (forms_narrow after (length files') clauses' (subst (λ (cs : List Clause). IsInput after files' cs) (sym made.clauses_are) kept_files).each);
       ordered = made.sorted.ordered;
       light = ap (list_all is_light_form) made.forms_are ∙ light_forms clauses' parts.0;
       few_forms = subst (λ (forms : List Form). length forms ≤ most_forms) (sym made.forms_are) (few_of (length (forms_of clauses')) inner.0);

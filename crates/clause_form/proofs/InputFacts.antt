@@ -1,5 +1,5 @@
 -- The facts of an input hold of its clauses over the sorted symbols.
-use Rattle.std.proofs.Common.{◌≡◌, ℕ, zero, suc, ◌+◌, Bool, true, false, ◌&&◌, List, [], ◌∷◌, ◌++◌, length, map, refl, sym, ◌∙◌, ap, arith, All, Option, Some, None, slice_get, slice_index_or, nat_lt, IsPermutation, true≢false}
+use Rattle.std.proofs.Common.{◌≡◌, ℕ, zero, suc, ◌+◌, Bool, true, false, ◌&&◌, List, [], ◌∷◌, ◌++◌, length, map, refl, sym, ◌∙◌, ap, arith, All, Option, Some, None, slice_get, slice_index_or, nat_lt, IsPermutation, true≢false, if◌then◌else◌}
 use Rattle.std.proofs.lemmas.List.{length-map}
 use Rattle.std.proofs.lemmas.List.Elements.{All-nil, All-cons, All-head, All-tail}
 use Rattle.std.proofs.lemmas.List.Sorted.{All-permutation}
@@ -8,7 +8,7 @@ use Rattle.std.specs.List.{list_all, flat_map}
 use Rattle.std.specs.Option.{option_map, option_map_or}
 use Rattle.mg_word.specs.Table.{Symbol}
 use Rattle.mg_word.specs.Words.{are_patterns, numbered}
-use Rattle.mg_word.specs.Forms.{is_among}
+use Rattle.mg_word.specs.Forms.{conclusions_of, is_among}
 use Rattle.mg_word.specs.Facts.{IsClause, literal_fits, literal_variables, is_choosable, are_choices, is_symbol}
 use Rattle.mg_word.specs.SymbolOrder.{IsRenumbering}
 use Rattle.mg_word.specs.declared.item.Item.{Item}
@@ -16,8 +16,8 @@ use Rattle.mg_word.specs.declared.item.Item.TheVariants.{Sym, Var}
 use Rattle.mg_word.specs.declared.clause.ClauseLit.{ClauseLit}
 use Rattle.mg_word.specs.declared.clause.ClauseLit.TheVariants.{True, False, Lit as Literal}
 use Rattle.mg_word.specs.declared.clause.Clause.{Clause}
-use Rattle.clause_form.specs.Renumbering.{pattern_renumbered, literal_renumbered, clause_renumbered}
-use Rattle.clause_form.proofs.Among.{both_true}
+use Rattle.clause_form.specs.Renumbering.{pattern_renumbered, lit_renumbered, literal_renumbered, clause_renumbered}
+use Rattle.mg_word.proofs.Members.{both_true}
 use Rattle.clause_form.proofs.Renumbered.{variables_mapped}
 
 -- a symbol that is held by the table, where its arguments are right, and by the other table
@@ -80,12 +80,25 @@ all_choices_mapped n literals [] = refl
 all_choices_mapped n literals (chosen ∷ items) =
     ap (λ b. b && list_all (are_choices 0 (map (literal_renumbered n) literals)) items) (choices_mapped n literals 0 chosen) ∙ ap (λ b. are_choices 0 literals chosen && b) (all_choices_mapped n literals items)
 
+conclusions_count : (n : List ℕ) (literals : List ClauseLit) → length (conclusions_of (map (literal_renumbered n) literals)) ≡ length (conclusions_of literals)
+conclusions_count n [] = refl
+conclusions_count n (True ∷ literals) = conclusions_count n literals
+conclusions_count n (False ∷ literals) = conclusions_count n literals
+conclusions_count n (Literal lit ∷ literals) = by_sign lit.negative (conclusions_count n literals)
+  where
+    by_sign : (negative : Bool) → length (conclusions_of (map (literal_renumbered n) literals)) ≡ length (conclusions_of literals)
+        → length (if negative then conclusions_of (map (literal_renumbered n) literals) else lit_renumbered n lit ∷ conclusions_of (map (literal_renumbered n) literals)) ≡ length (if negative then conclusions_of literals else lit ∷ conclusions_of literals)
+    by_sign true same = same
+    by_sign false same = ap suc same
+
 -- a clause keeps its facts
 pub clause_kept : (before after : List Symbol) (n : List ℕ) (files : ℕ) (clause : Clause) → IsRenumbering before after n → IsClause before files clause → IsClause after files (clause_renumbered n clause)
 clause_kept before after n files clause r facts = record {
   fitting = literals_fit_mapped before after n (length clause.variables) clause.literals r facts.fitting;
   occurring = λ variable h. ap (λ vs. is_among vs variable) (literal_variables_mapped n clause.literals) ∙ facts.occurring variable h;
   choices = all_choices_mapped n clause.literals clause.conclude ∙ facts.choices;
+  positives = let e = conclusions_count n clause.literals in omega (arith, e, facts.positives);
+  positions = facts.positions;
   place = facts.place;
   literals = let e = length-map clause.literals (literal_renumbered n) in omega (arith, facts.literals);
   variables = facts.variables;

@@ -1,4 +1,5 @@
 pub mod Among
+mod Examples
 pub mod Excluding
 pub mod FormFacts
 pub mod FormLists

@@ -1,5 +1,5 @@
 -- The clauses with those before them: how many forms they have, and which fault stands first.
-use Rattle.std.proofs.Common.{◌≡◌, ℕ, ◌+◌, ◌<◌, ◌≤◌, Bool, true, false, ◌&&◌, List, [], ◌∷◌, ◌++◌, length, get_or, take, drop, map, refl, sym, ◌∙◌, ap, subst, arith, append_assoc, if◌then◌else◌, nat_le, All}
+use Rattle.std.proofs.Common.{append-nil, ◌≡◌, ℕ, ◌+◌, ◌<◌, ◌≤◌, Bool, true, false, ◌&&◌, List, [], ◌∷◌, ◌++◌, length, get_or, take, drop, map, refl, sym, ◌∙◌, ap, subst, arith, append_assoc, if◌then◌else◌, nat_le, All}
 use Rattle.std.proofs.lemmas.List.{take_more, length-take, length-append}
 use Rattle.std.proofs.lemmas.List.Folds.{list_all-append}
 use Rattle.std.proofs.lemmas.List.Elements.{All-cons, All-map, All-nil}
@@ -15,7 +15,7 @@ use Rattle.clause_form.specs.Building.{RefusesClause, IsPushed}
 use Rattle.clause_form.specs.declared.fault.FormFault.{FormFault}
 use Rattle.clause_form.specs.declared.fault.FormFault.TheVariants.{TooHeavy, TooManyForms, NotRestricted, NoMemory}
 use Rattle.clause_form.proofs.Splits.{split_at}
-use Rattle.clause_form.proofs.Among.{append-nil, both_true}
+use Rattle.mg_word.proofs.Members.{both_true}
 
 pub forms_from-append : (at : ℕ) (xs ys : List Clause) → forms_from at (xs ++ ys) ≡ forms_from at xs ++ forms_from (at + length xs) ys
 forms_from-append at [] ys = ap (λ n. forms_from n ys) (omega arith)

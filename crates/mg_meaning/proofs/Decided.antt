@@ -7,7 +7,7 @@ use Rattle.mg_word.specs.Facts.{ProblemData, IsProblem}
 use Rattle.mg_word.specs.declared.lit.Lit.{Lit}
 use Rattle.mg_word.specs.declared.form.Inst.{Inst}
 use Rattle.mg_word.proofs.Members.{two_cases, both_true, and_true, not_true, not_false, never_true, never_false, part_of_itself, part_of_part, part_from}
-use Rattle.mg_word.proofs.Risings.{rising-set_of, holds-set_of}
+use Rattle.mg_word.proofs.RisingLists.{rising-set_of, holds-set_of}
 use Rattle.mg_meaning.specs.Instances.{are_literals, IsInstance}
 use Rattle.mg_meaning.specs.Satisfaction.{Satisfies}
 use Rattle.mg_meaning.specs.Minimality.{IsMinimal}

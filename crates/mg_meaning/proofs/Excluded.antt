@@ -8,7 +8,7 @@ use Rattle.mg_word.specs.Facts.{ProblemData}
 use Rattle.mg_word.specs.declared.lit.Lit.{Lit}
 use Rattle.mg_word.specs.declared.form.Inst.{Inst}
 use Rattle.mg_word.proofs.Members.{either_true, holds-append, both_true, and_true, not_true, not_false, never_true, or_true, holds_cases, holds_first, holds_later, holds_left, holds_right, part_holds, part_from, none_met, not_met, clash_free_at, lit_is_itself}
-use Rattle.mg_word.proofs.Risings.{holds-set_of}
+use Rattle.mg_word.proofs.RisingLists.{holds-set_of}
 use Rattle.mg_meaning.proofs.Lists.{Among, among_from}
 use Rattle.mg_meaning.specs.Instances.{are_literals, IsInstance}
 use Rattle.mg_meaning.specs.Satisfaction.{Satisfies}

@@ -5,9 +5,13 @@ pub mod Binds
 pub mod ClauseTruth
 pub mod Decided
 pub mod Enough
-pub mod Examples
+pub mod ExampleMatches
+pub mod ExampleProblems
+pub mod ExampleSets
+pub mod ExampleTrees
 pub mod Excluded
 pub mod FormSteps
+pub mod FormTruth
 pub mod FormVariables
 pub mod Fronts
 pub mod Herbrand

@@ -28,13 +28,12 @@ use Rattle.mg_meaning.specs.Instances.{IsInstance}
 use Rattle.mg_meaning.specs.Violation.{is_violated, heaviest, weight_of, subst_cmp, inst_cmp, IsLeast}
 use Rattle.mg_meaning.specs.Bound.{positive_weight}
 use Rattle.mg_meaning.specs.Listing.{violated_in}
-use Rattle.mg_meaning.proofs.Lists.{Among, among_from, contains_from}
+use Rattle.mg_meaning.proofs.Lists.{Among, All-at, among_from, contains_from}
 use Rattle.mg_meaning.proofs.InstOrders.{inst_total}
 use Rattle.mg_meaning.proofs.Excluded.{violated_from}
 use Rattle.mg_meaning.proofs.Herbrand.{missed_from, plain_among, among_numbered}
 use Rattle.mg_meaning.proofs.Listings.{violated_exact}
-use Rattle.mg_meaning.proofs.FormVariables.{numbered_among}
-use Rattle.mg_meaning.proofs.ClauseTruth.{form_at}
+use Rattle.mg_meaning.proofs.FormTruth.{form_of_clause}
 use Rattle.mg_meaning.proofs.Room.{all_below}
 
 -- where a branch's atoms leave a ground instance untrue, its plain form's instance is violated
@@ -211,13 +210,10 @@ conclusions_over table variables terms (first ∷ lits) count each all lit (inl 
 conclusions_over table variables terms (first ∷ lits) count each all lit (inr later) =
     conclusions_over table variables terms lits count each (both_true (pattern_fits table variables first.pattern) (list_all (λ (one : PatLit). pattern_fits table variables one.pattern) lits) all).1 lit later
 
-all_clause : (P : Clause → Type 0) (clauses : List Clause) (place : ℕ) (clause : Clause) → All P clauses → slice_get clauses place ≡ Some clause → P clause
-all_clause P clauses place clause all at = subst P (get_or_from_slice_get clauses place clause clause at) (all place clause (slice_get_within clauses place clause at))
-
 pub conclusion_over : (problem : ProblemData) → IsProblem problem → (inst : Inst) → IsInstance problem inst → (lit : Lit) → Among inst.conclusions lit → IsWordOver (length problem.symbols) lit
 conclusion_over problem real inst is lit there =
-    let (place, number, at) = form_at 0 problem.clauses is.form (subst (λ forms. Among forms is.form) real.formed (numbered_among problem.forms inst.form is.form is.is)) in
-    let clause : IsClause problem.symbols (length problem.files) at.clause = all_clause (IsClause problem.symbols (length problem.files)) problem.clauses place at.clause real.input.each at.there in
+    let at = form_of_clause problem.clauses problem.forms real.formed inst.form is.form is.is in
+    let clause : IsClause problem.symbols (length problem.files) at.clause = All-at (IsClause problem.symbols (length problem.files)) problem.clauses is.form.clause at.clause real.input.each at.there in
     let parts = both_true (nat_eq (length inst.subst) is.form.variables) (list_all (fits problem.symbols) inst.subst) is.terms in
     let count : length inst.subst ≡ length at.clause.variables = eqb-true (length inst.subst) is.form.variables parts.0 ∙ at.variables in
     conclusions_over problem.symbols (length at.clause.variables) inst.subst is.form.conclusions count parts.1 (at.fitting problem.symbols (length at.clause.variables) clause.fitting) lit

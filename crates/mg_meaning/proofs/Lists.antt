@@ -1,6 +1,7 @@
 -- Elements of lists, by cases on the list, and of lists that are mapped, joined or filtered.
-use Rattle.std.proofs.Common.{◌≡◌, ◌≢◌, ℕ, zero, suc, ◌<◌, List, [], ◌∷◌, ◌++◌, map, length, get_or, Option, Some, None, Contains, refl, sym, ap, subst, ◌∙◌, ◌⊎◌, inl, inr, arith}
+use Rattle.std.proofs.Common.{◌≡◌, ◌≢◌, ℕ, zero, suc, ◌<◌, List, [], ◌∷◌, ◌++◌, map, length, get_or, Option, Some, None, slice_get, All, Contains, refl, sym, ap, subst, ◌∙◌, ◌⊎◌, inl, inr, arith}
 use Rattle.std.specs.List.{flat_map, filter_map, cons_option, AllPairs}
+use Rattle.std.proofs.lemmas.Option.{slice_get_within, get_or_from_slice_get}
 use Rattle.std.proofs.lemmas.List.Kept.{AllPairs-cons}
 
 module _ {X : Type 0} where
@@ -144,3 +145,7 @@ module _ {X Y : Type 0} where
   apart-flat_map f (x ∷ xs) (none, apart) each tells =
       apart-append (f x) (flat_map f xs) (each x (inl refl)) (apart-flat_map f xs apart (λ one among. each one (inr among)) (λ a b y p q. tells a b y (inr p) (inr q)))
       (λ y front back. let (found, among, is) = among-flat_map f xs y back in none (subst (Among xs) (tells found x y (inr among) (inl refl) is front) among))
+
+-- what holds of each element holds of the one at a place
+pub All-at : {X : Type 0} (P : X → Type 0) (xs : List X) (place : ℕ) (x : X) → All P xs → slice_get xs place ≡ Some x → P x
+All-at P xs place x all at = subst P (get_or_from_slice_get xs place x x at) (all place x (slice_get_within xs place x at))

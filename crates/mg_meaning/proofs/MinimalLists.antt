@@ -1,5 +1,5 @@
 -- Only one list has exactly the minimal sets.
-use Rattle.std.proofs.Common.{◌≡◌, true, true≢false, List, [], ◌∷◌, refl, sym, ap₂, subst, inl, inr}
+use Rattle.std.proofs.Common.{◌≡◌, true, true≢false, not, List, [], ◌∷◌, refl, sym, ap₂, subst, inl, inr}
 use Rattle.std.specs.declared.cmp.Ordering.{Ordering}
 use Rattle.std.specs.declared.cmp.Ordering.TheVariants.{Less, Equal, Greater}
 use Rattle.std.specs.Ordering.{is_lt}
@@ -8,8 +8,11 @@ use Rattle.mg_word.specs.Orders.{lits_cmp}
 use Rattle.mg_word.specs.OrderLaws.{lits_total}
 use Rattle.mg_word.specs.Facts.{ProblemData}
 use Rattle.mg_word.specs.declared.lit.Lit.{Lit}
-use Rattle.mg_word.proofs.Members.{both_true}
-use Rattle.mg_meaning.specs.Minimality.{is_set_below_first, are_sets_rising, ListsMinimal}
+use Rattle.mg_word.proofs.Members.{both_true, and_true, not_false, never_false}
+use Rattle.mg_word.proofs.RisingLists.{parts_same as rising_same}
+use Rattle.mg_word.specs.Sets.{is_part, is_rising}
+use Rattle.mg_meaning.specs.Satisfaction.{Satisfies}
+use Rattle.mg_meaning.specs.Minimality.{is_set_below_first, are_sets_rising, IsMinimal, ListsMinimal}
 use Rattle.mg_meaning.proofs.Lists.{Among, among_from, contains_from}
 
 is_less : (answer : Ordering) → is_lt answer ≡ true → answer ≡ Less
@@ -60,3 +63,18 @@ pub lists_same : (problem : ProblemData) (one two : List (List Lit)) → ListsMi
 lists_same problem one two p q = rising_sets_same one two p.rising q.rising
     (λ set there. among_from two set ((q.exact set).1 ((p.exact set).0 (contains_from one set there))))
     (λ set there. among_from one set ((p.exact set).1 ((q.exact set).0 (contains_from two set there))))
+
+-- a rising list of minimal sets, one of which each satisfying set includes, has exactly the minimal sets
+pub lists_from : (problem : ProblemData) (sets : List (List Lit)) → are_sets_rising sets ≡ true → ((set : List Lit) → Among sets set → (is_rising set ≡ true) × IsMinimal set problem)
+    → ((set : List Lit) → Satisfies set problem → (one : List Lit) × Among sets one × (is_part one set ≡ true)) → ListsMinimal sets problem
+lists_from problem sets rising each covers = record {
+  rising = rising;
+  exact = λ set. ((λ there. each set (among_from sets set there)), (λ is. contains_from sets set (listed set is.0 is.1)));
+}
+  where
+    listed : (set : List Lit) → is_rising set ≡ true → IsMinimal set problem → Among sets set
+    listed set own minimal =
+        let (one, there, part) = covers set minimal.satisfying in
+        let is = each one there in
+        let whole : is_part set one ≡ true = never_false (is_part set one) (λ more. minimal.least one (and_true (is_part one set) (not (is_part set one)) part (not_false (is_part set one) more)) is.1.satisfying) in
+        subst (λ listed. Among sets listed) (rising_same one set is.0 own part whole) there

@@ -7,7 +7,7 @@ use Rattle.mg_word.specs.OrderLaws.{lits_equal}
 use Rattle.mg_word.specs.Facts.{ProblemData}
 use Rattle.mg_word.specs.declared.lit.Lit.{Lit}
 use Rattle.mg_word.proofs.Members.{two_cases, either_true, or_true, part_holds, part_of_part, part-append, none_met, not_met, clash_free_at, and_true}
-use Rattle.mg_word.proofs.Risings.{holds-with_lit}
+use Rattle.mg_word.proofs.RisingLists.{holds-with_lit}
 use Rattle.mg_meaning.specs.Satisfaction.{Satisfies}
 use Rattle.mg_meaning.specs.Excluding.{passes}
 use Rattle.mg_meaning.specs.PlainTree.{Shape, Shapes, saturated, rejected, split, none, shut, child, IsPlain, ArePlain, saturated_in, saturated_in_all}

@@ -1,9 +1,11 @@
+pub mod AppliedWords
 pub mod Different
 pub mod Entries
 pub mod Members
 pub mod Merging
+pub mod NameTexts
+pub mod Narrow
 pub mod RisingLists
-pub mod Risings
 pub mod SameTables
 pub mod SortedLits
 pub mod Sorting

@@ -1,8 +1,8 @@
 -- What membership in lists of literals says: parts, lists that meet, and lists joined end to end.
 use Rattle.std.proofs.Common.{◌≡◌, Bool, true, false, true≢false, not, ◌&&◌, ◌||◌, List, [], ◌∷◌, ◌++◌, refl, sym, ap, ◌∙◌, ◌⊎◌, inl, inr}
-use Rattle.std.specs.List.{list_any, list_all}
+use Rattle.std.specs.List.{list_all}
 use Rattle.mg_word.specs.OrderLaws.{lits_equal}
-use Rattle.mg_word.specs.Sets.{same_lit, holds, is_part, is_proper_part, meets, is_clash_free}
+use Rattle.mg_word.specs.Sets.{same_lit, holds, is_part, meets, is_clash_free}
 use Rattle.mg_word.specs.Words.{complement_of}
 use Rattle.mg_word.specs.declared.lit.Lit.{Lit}
 

@@ -1,5 +1,5 @@
 -- Whether a rising list of literals is a part of another, by going over both at once.
-use Rattle.std.proofs.Common.{◌≡◌, ℕ, ◌+◌, ◌<◌, zero, suc, Bool, true, false, ◌||◌, ◌&&◌, List, [], ◌∷◌, length, get_or, drop, drop-cons, add-one, ◌≤◌, nat_eq, inl, inr, refl, sym, ap, ◌∙◌, arith}
+use Rattle.std.proofs.Common.{◌≡◌, ℕ, ◌+◌, ◌<◌, zero, suc, true, false, ◌||◌, ◌&&◌, List, [], ◌∷◌, length, get_or, drop, drop-cons, add-one, ◌≤◌, nat_eq, inl, inr, refl, sym, ap, ◌∙◌, arith}
 use Rattle.std.specs.declared.cmp.Ordering.TheVariants.{Less, Equal, Greater}
 use Rattle.std.specs.Ordering.{is_lt, is_eq, ordering_reverse}
 use Rattle.std.proofs.lemmas.Bool.{and_parts, or_right, cases_lt}
@@ -10,21 +10,14 @@ use Rattle.mg_word.specs.Orders.{lit_cmp}
 use Rattle.mg_word.specs.OrderLaws.{lit_total, lit_same}
 use Rattle.mg_word.specs.Sets.{same_lit, holds, is_part, is_below_first, is_rising}
 use Rattle.mg_word.specs.declared.lit.Lit.{Lit}
-use Rattle.mg_word.proofs.RisingLists.{least, held_first, not_below_itself}
-
--- a literal before the first of a rising list is not in it
-missing_low : (low : Lit) (lits : List Lit) → is_below_first low lits ≡ true → is_rising lits ≡ true → holds lits low ≡ false
-missing_low low lits below rising = by (holds lits low) refl
-  where
-    by : (there : Bool) → holds lits low ≡ there → there ≡ false
-    by false is = refl
-    by true is = absurd (not_below_itself low (least low lits below rising low is))
+use Rattle.mg_word.proofs.RisingLists.{least, missing_low}
+use Rattle.mg_word.proofs.Members.{holds_first}
 
 -- a literal before each of a list is not needed for it
 part_skip : (low : Lit) (part whole : List Lit) → ((lit : Lit) → holds part lit ≡ true → lit_cmp low lit ≡ Less) → is_part part (low ∷ whole) ≡ is_part part whole
 part_skip low [] whole above = refl
 part_skip low (lit ∷ part) whole above =
-    let tie : same_lit low lit ≡ false = ap is_eq (above lit (held_first lit part)) in
+    let tie : same_lit low lit ≡ false = ap is_eq (above lit (holds_first lit part)) in
     let further = part_skip low part whole (λ held there. above held (or_right (same_lit lit held) (holds part held) there)) in
     ap (λ b. (b || holds whole lit) && is_part part (low ∷ whole)) tie ∙ ap (λ b. holds whole lit && b) further
 
@@ -34,7 +27,7 @@ part_less lit held part whole rising less = ap (λ b. b && is_part part (held �
 part_equal : (lit : Lit) (part whole : List Lit) → is_rising (lit ∷ part) ≡ true → is_part (lit ∷ part) (lit ∷ whole) ≡ is_part part whole
 part_equal lit part whole rising =
     let parts = and_parts (is_below_first lit part) (is_rising part) rising in
-    ap (λ b. b && is_part part (lit ∷ whole)) (held_first lit whole) ∙ part_skip lit part whole (least lit part parts.0 parts.1)
+    ap (λ b. b && is_part part (lit ∷ whole)) (holds_first lit whole) ∙ part_skip lit part whole (least lit part parts.0 parts.1)
 
 part_greater : (lit held : Lit) (part whole : List Lit) → is_rising (lit ∷ part) ≡ true → lit_cmp lit held ≡ Greater → is_part (lit ∷ part) (held ∷ whole) ≡ is_part (lit ∷ part) whole
 part_greater lit held part whole rising greater =

@@ -12,9 +12,11 @@ use Rattle.std.proofs.lemmas.Map.Keys.{sorted_tail}
 use Rattle.std.proofs.lemmas.Map.Views.{All-after_first}
 use Rattle.mg_word.specs.Orders.{lit_cmp}
 use Rattle.mg_word.specs.OrderLaws.{lit_total, lit_same, lits_equal}
-use Rattle.mg_word.specs.Sets.{same_lit, holds, is_below_first, is_rising, placed, with_lit, set_of}
+use Rattle.mg_word.specs.Sets.{same_lit, holds, is_part, is_below_first, is_rising, placed, with_lit, set_of}
 use Rattle.mg_word.specs.declared.lit.Lit.{Lit}
+use Rattle.mg_word.proofs.Members.{never_true, same_tests, holds_first, part_holds}
 
+-- the answer is the one that it is tested for
 pub is_less : (answer : Ordering) → is_lt answer ≡ true → answer ≡ Less
 is_less Less e = refl
 is_less Equal e = cc
@@ -35,18 +37,15 @@ least lit (first ∷ lits) below rising held there =
     by true is further = rw (← (lits_equal first held).0 is) (is_less (lit_cmp lit first) below)
     by false is further = further (sym (ap (λ b. b || holds lits held) is) ∙ there)
 
+-- a literal before the first of a rising list is not in it
+pub missing_low : (low : Lit) (lits : List Lit) → is_below_first low lits ≡ true → is_rising lits ≡ true → holds lits low ≡ false
+missing_low low lits below rising = never_true (holds lits low) (λ there. not_below_itself low (least low lits below rising low there))
+
 -- the first of a rising list is not in the rest
 first_once : (lit : Lit) (lits : List Lit) → is_rising (lit ∷ lits) ≡ true → holds lits lit ≡ false
-first_once lit lits rising = by (holds lits lit) refl
-  where
-    by : (there : Bool) → holds lits lit ≡ there → there ≡ false
-    by false is = refl
-    by true is =
-        let parts = and_parts (is_below_first lit lits) (is_rising lits) rising in
-        absurd (not_below_itself lit (least lit lits parts.0 parts.1 lit is))
-
-pub held_first : (lit : Lit) (lits : List Lit) → holds (lit ∷ lits) lit ≡ true
-held_first lit lits = ap (λ b. b || holds lits lit) ((lits_equal lit lit).1 refl)
+first_once lit lits rising =
+    let parts = and_parts (is_below_first lit lits) (is_rising lits) rising in
+    missing_low lit lits parts.0 parts.1
 
 -- two rising lists with the same members begin alike
 same_first : (a b : Lit) (these those : List Lit) → is_rising (a ∷ these) ≡ true → is_rising (b ∷ those) ≡ true → holds (b ∷ those) a ≡ true → holds (a ∷ these) b ≡ true → a ≡ b
@@ -75,16 +74,21 @@ same_rest first these those up_a up_b same lit = by (same_lit first lit) refl
 -- a set has one rising list
 pub rising_same : (these those : List Lit) → is_rising these ≡ true → is_rising those ≡ true → ((lit : Lit) → holds these lit ≡ holds those lit) → these ≡ those
 rising_same [] [] up_a up_b same = refl
-rising_same [] (b ∷ those) up_a up_b same = absurd (true≢false (sym (held_first b those) ∙ sym (same b)))
-rising_same (a ∷ these) [] up_a up_b same = absurd (true≢false (sym (held_first a these) ∙ same a))
+rising_same [] (b ∷ those) up_a up_b same = absurd (true≢false (sym (holds_first b those) ∙ sym (same b)))
+rising_same (a ∷ these) [] up_a up_b same = absurd (true≢false (sym (holds_first a these) ∙ same a))
 rising_same (a ∷ these) (b ∷ those) up_a up_b same =
-    let first = same_first a b these those up_a up_b (sym (same a) ∙ held_first a these) (same b ∙ held_first b those) in
+    let first = same_first a b these those up_a up_b (sym (same a) ∙ holds_first a these) (same b ∙ holds_first b those) in
     let parts_a = and_parts (is_below_first a these) (is_rising these) up_a in
     let parts_b = and_parts (is_below_first b those) (is_rising those) up_b in
     let up_b' : is_rising (a ∷ those) ≡ true = rw first up_b in
     let same' : (lit : Lit) → holds (a ∷ these) lit ≡ holds (a ∷ those) lit = λ lit. same lit ∙ ap (λ l. holds (l ∷ those) lit) (sym first) in
     let rest = rising_same these those parts_a.1 parts_b.1 (same_rest a these those up_a up_b' same') in
     cc
+
+-- two rising lists, each a part of the other, are equal
+pub parts_same : (these those : List Lit) → is_rising these ≡ true → is_rising those ≡ true → is_part these those ≡ true → is_part those these ≡ true → these ≡ those
+parts_same these those up_a up_b part back =
+    rising_same these those up_a up_b (λ lit. same_tests (holds these lit) (holds those lit) (part_holds these those lit part) (part_holds those these lit back))
 
 below_with : (low lit : Lit) (lits : List Lit) → is_below_first low lits ≡ true → lit_cmp low lit ≡ Less → is_below_first low (with_lit lits lit) ≡ true
 below_with low lit [] below less = ap is_lt less
@@ -96,11 +100,11 @@ below_with low lit (first ∷ lits) below less = by (lit_cmp lit first)
     by Greater = below
 
 -- one literal more keeps a list rising
-pub rising_with : (lits : List Lit) (lit : Lit) → is_rising lits ≡ true → is_rising (with_lit lits lit) ≡ true
-rising_with [] lit rising = refl
-rising_with (first ∷ lits) lit rising =
+pub rising-with_lit : (lits : List Lit) (lit : Lit) → is_rising lits ≡ true → is_rising (with_lit lits lit) ≡ true
+rising-with_lit [] lit rising = refl
+rising-with_lit (first ∷ lits) lit rising =
     let parts = and_parts (is_below_first first lits) (is_rising lits) rising in
-    by (lit_cmp lit first) refl parts.0 (rising_with lits lit parts.1)
+    by (lit_cmp lit first) refl parts.0 (rising-with_lit lits lit parts.1)
   where
     by : (answer : Ordering) → lit_cmp lit first ≡ answer → is_below_first first lits ≡ true → is_rising (with_lit lits lit) ≡ true → is_rising (placed answer lit first lits (with_lit lits lit)) ≡ true
     by Less is below further = and_from (is_lt (lit_cmp lit first)) (is_rising (first ∷ lits)) (ap is_lt is) rising
@@ -116,9 +120,9 @@ swap_or false true c = refl
 swap_or false false c = refl
 
 -- and it has exactly that member more
-pub holds_with : (lits : List Lit) (lit held : Lit) → holds (with_lit lits lit) held ≡ (same_lit lit held || holds lits held)
-holds_with [] lit held = refl
-holds_with (first ∷ lits) lit held = by (lit_cmp lit first) refl (holds_with lits lit held)
+pub holds-with_lit : (lits : List Lit) (lit held : Lit) → holds (with_lit lits lit) held ≡ (same_lit lit held || holds lits held)
+holds-with_lit [] lit held = refl
+holds-with_lit (first ∷ lits) lit held = by (lit_cmp lit first) refl (holds-with_lit lits lit held)
   where
     twice : (a b : Bool) → (a || (a || b)) ≡ (a || b)
     twice true b = refl
@@ -130,17 +134,19 @@ holds_with (first ∷ lits) lit held = by (lit_cmp lit first) refl (holds_with l
     by Equal is further = rw (lit_same lit first is) (sym (twice (same_lit first held) (holds lits held)))
     by Greater is further = ap (λ t. same_lit first held || t) further ∙ swap_or (same_lit first held) (same_lit lit held) (holds lits held)
 
-pub rising_set : (lits : List Lit) → is_rising (set_of lits) ≡ true
-rising_set [] = refl
-rising_set (lit ∷ lits) = rising_with (set_of lits) lit (rising_set lits)
+-- the set of a list rises
+pub rising-set_of : (lits : List Lit) → is_rising (set_of lits) ≡ true
+rising-set_of [] = refl
+rising-set_of (lit ∷ lits) = rising-with_lit (set_of lits) lit (rising-set_of lits)
 
-pub holds_set : (lits : List Lit) (held : Lit) → holds (set_of lits) held ≡ holds lits held
-holds_set [] held = refl
-holds_set (lit ∷ lits) held = holds_with (set_of lits) lit held ∙ ap (λ t. same_lit lit held || t) (holds_set lits held)
+-- and has exactly the list's members
+pub holds-set_of : (lits : List Lit) (held : Lit) → holds (set_of lits) held ≡ holds lits held
+holds-set_of [] held = refl
+holds-set_of (lit ∷ lits) held = holds-with_lit (set_of lits) lit held ∙ ap (λ t. same_lit lit held || t) (holds-set_of lits held)
 
 -- a rising list with the members of a list is its set
 pub set_exact : (lits rising : List Lit) → is_rising rising ≡ true → ((lit : Lit) → holds rising lit ≡ holds lits lit) → rising ≡ set_of lits
-set_exact lits rising up same = rising_same rising (set_of lits) up (rising_set lits) (λ lit. same lit ∙ sym (holds_set lits lit))
+set_exact lits rising up same = rising_same rising (set_of lits) up (rising-set_of lits) (λ lit. same lit ∙ sym (holds-set_of lits lit))
 
 -- membership by a test and by an index
 pub holds_there : (lits : List Lit) (lit : Lit) → holds lits lit ≡ true → Contains lits lit
@@ -153,6 +159,7 @@ holds_there (first ∷ lits) lit found = by (same_lit first lit) refl (holds_the
         let there = further (sym (ap (λ t. t || holds lits lit) is) ∙ found) in
         (suc there.0, omega (arith, there.1), there.2)
 
+-- and the other way
 pub there_holds : (lits : List Lit) (lit : Lit) → Contains lits lit → holds lits lit ≡ true
 there_holds [] lit (k, within, is) = absurd (omega arith)
 there_holds (first ∷ lits) lit (zero, within, is) = ap (λ t. t || holds lits lit) ((lits_equal first lit).1 is)
@@ -162,6 +169,7 @@ there_holds (first ∷ lits) lit (suc k, within, is) = by (same_lit first lit) (
     by true there = refl
     by false there = there
 
+-- so the test tells membership
 pub holds_decides : (lits : List Lit) (lit : Lit) → Decides (holds lits lit) (Contains lits lit)
 holds_decides lits lit = (holds_there lits lit, there_holds lits lit)
 

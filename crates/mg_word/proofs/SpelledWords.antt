@@ -1,13 +1,14 @@
 -- A spelled word or literal over a table tells which it is.
-use Rattle.std.proofs.Common.{◌≡◌, ◌≢◌, ℕ, zero, suc, ◌+◌, Bool, true, false, true≢false, List, [], ◌∷◌, ◌++◌, map, Option, Some, None, slice_get, AllPairs, refl, sym, ap, ◌∙◌, append_assoc}
+use Rattle.std.proofs.Common.{◌≡◌, ◌≢◌, ℕ, zero, suc, ◌+◌, Bool, true, false, true≢false, List, [], ◌∷◌, ◌++◌, map, Some, slice_get, AllPairs, refl, sym, ap, ◌∙◌, append_assoc}
 use Rattle.std.specs.List.{list_all}
-use Rattle.std.specs.Option.{option_map_or, option_to_list}
+use Rattle.std.specs.Option.{option_to_list}
 use Rattle.std.proofs.lemmas.Bool.{and_parts, and_from}
 use Rattle.mg_word.specs.Table.{Symbol}
 use Rattle.mg_word.specs.Words.{are_terms, fits}
 use Rattle.mg_word.specs.Facts.{is_symbol}
 use Rattle.mg_word.specs.Spelling.{symbols_at, spelled_name, behind, open_behind, spelled_within, symbol_piece, spelled_symbols, spelled}
 use Rattle.mg_word.specs.OneSpelling.{make_terms, WordsAreSpelledApart, LitsAreSpelledApart}
+use Rattle.mg_word.proofs.AppliedWords.{at_symbol}
 use Rattle.mg_word.proofs.Different.{number_unique}
 use Rattle.mg_word.proofs.SpelledNames.{no_sign_first}
 use Rattle.mg_word.proofs.SpelledTerms.{symbols_apart}
@@ -22,11 +23,7 @@ record First (table : List Symbol) (symbol : ℕ) (word : List ℕ) (wanted : �
 
 first_of : (table : List Symbol) (symbol : ℕ) (word : List ℕ) (wanted : ℕ) → are_terms table wanted (symbol ∷ word) ≡ true → First table symbol word wanted
 first_of table symbol word zero fit = absurd (true≢false (sym fit))
-first_of table symbol word (suc wanted) fit = by (slice_get table symbol) refl fit
-  where
-    by : (held : Option Symbol) → slice_get table symbol ≡ held → option_map_or (λ entry. are_terms table (entry.arity + wanted) word) held false ≡ true → First table symbol word (suc wanted)
-    by None is fit = absurd (true≢false (sym fit))
-    by (Some held) is fit = record { before = wanted; held = held; is_one = refl; found = is; rest = fit }
+first_of table symbol word (suc wanted) fit = at_symbol table symbol wanted word fit (λ held is rest. record { before = wanted; held = held; is_one = refl; found = is; rest = rest })
 
 symbols_first : (table : List Symbol) (symbol : ℕ) (word : List ℕ) (held : Symbol) → slice_get table symbol ≡ Some held → symbols_at table (symbol ∷ word) ≡ held ∷ symbols_at table word
 symbols_first table symbol word held found = ap (λ o. option_to_list o ++ symbols_at table word) found

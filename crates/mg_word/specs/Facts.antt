@@ -5,7 +5,7 @@ use Rattle.std.specs.Option.{option_map_or}
 use Rattle.mg_word.specs.Table.{Symbol}
 use Rattle.mg_word.specs.SymbolOrder.{symbol_cmp}
 use Rattle.mg_word.specs.Words.{pattern_fits, numbered}
-use Rattle.mg_word.specs.Forms.{forms_of, is_among, is_restricted, pattern_variables}
+use Rattle.mg_word.specs.Forms.{conclusions_of, forms_of, is_among, is_restricted, pattern_variables}
 use Rattle.mg_word.specs.declared.symbol.Kind.{Kind}
 use Rattle.mg_word.specs.declared.symbol.Kind.TheVariants.{Word, Integer, Distinct}
 use Rattle.mg_word.specs.declared.clause.ClauseLit.{ClauseLit}
@@ -77,6 +77,10 @@ are_choices above literals (at ∷ chosen) =
 abbrev pub most_parts : ℕ
 most_parts = 33554432
 
+-- the most conclusions that a form may have
+abbrev pub most_conclusions : ℕ
+most_conclusions = 64
+
 -- what holds of each clause over so many files
 pub record IsClause (table : List Symbol) (files : ℕ) (clause : Clause) : Type 0 where
   -- its literals fit the symbols, and its variables are those below their number
@@ -85,6 +89,9 @@ pub record IsClause (table : List Symbol) (files : ℕ) (clause : Clause) : Type
   pub occurring : (variable : ℕ) → variable < length clause.variables → IsTrue (is_among (flat_map literal_variables clause.literals) variable)
   -- each item chooses literals in written order
   pub choices : IsTrue (list_all (are_choices 0 clause.literals) clause.conclude)
+  -- neither its plain form nor an item gives more conclusions than a form may have
+  pub positives : length (conclusions_of clause.literals) ≤ most_conclusions
+  pub positions : All (λ chosen. length chosen ≤ most_conclusions) clause.conclude
   pub place : clause.place.file < files
   pub literals : length clause.literals ≤ most_parts
   pub variables : length clause.variables ≤ most_parts
@@ -106,6 +113,10 @@ most_forms = 100000
 abbrev pub is_light_lit : PatLit → Bool
 is_light_lit lit = nat_le (length lit.pattern) most_items
 
+-- the form has few enough conclusions
+abbrev pub IsNarrow : Form → Type 0
+IsNarrow form = length form.conclusions ≤ most_conclusions
+
 -- each literal of the form has
 abbrev pub is_light_form : Form → Bool
 is_light_form form = list_all is_light_lit form.premises && list_all is_light_lit form.conclusions
@@ -117,6 +128,7 @@ pub record IsProblem (problem : ProblemData) : Type 0 where
   pub formed : problem.forms ≡ forms_of problem.clauses
   -- each of its forms is range restricted
   pub restricted : IsTrue (list_all is_restricted problem.forms)
+  pub narrow : All IsNarrow problem.forms
   -- its symbols stand in symbol order
   pub ordered : IsSorted symbol_cmp problem.symbols
   -- no literal of a form is too heavy

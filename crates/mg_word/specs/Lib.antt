@@ -10,4 +10,5 @@ pub mod Spelling
 pub mod SymbolLaws
 pub mod SymbolOrder
 pub mod Table
+pub mod WordLaws
 pub mod Words

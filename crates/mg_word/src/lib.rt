@@ -21,6 +21,7 @@ mod subst;
 mod symbol;
 mod text;
 mod word;
+mod word_laws;
 
 pub use clause::{Clause, ClauseLit, Name, Place};
 pub use form::{Form, Inst};
@@ -42,3 +43,4 @@ pub use subst::Subst;
 pub use symbol::{Kind, Symbols};
 pub use text::Text;
 pub use word::Word;
+pub use word_laws::{sets_hold_their_lits, words_are_symbols_with_arguments};

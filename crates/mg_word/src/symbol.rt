@@ -1,6 +1,6 @@
 //! Symbols, numbered by first entry.
 
-ghost use Rattle.std.specs.Prelude.{◌≡◌, ◌≢◌, All, AllPairs, IsPermutation, IsSorted, map, ◌<◌, ◌-◌, ◌^◌, ◌↔◌, ◌++◌, [], ◌∷◌, length, slice_get, Contains, IfOk, OnOk, OnErr, IsNone, IsTrue, IfSome, Some};
+ghost use Rattle.std.specs.Prelude.{◌≡◌, ◌≢◌, All, AllPairs, IsPermutation, IsSorted, map, ◌<◌, ◌-◌, ◌^◌, ◌↔◌, ◌++◌, [], ◌∷◌, length, slice_get, Contains, IfOk, IsOkAnd, OnOk, OnErr, IsNone, IsTrue, IfSome, Some};
 ghost use Rattle.mg_word.specs.Table.{symbol_of};
 ghost use Rattle.mg_word.specs.Seen.{entry_seen};
 ghost use Rattle.mg_word.specs.SymbolOrder.{symbol_cmp, IsRenumbering, IsSortedTable};
@@ -49,9 +49,9 @@ impl Model for Symbols {
 }
 
 impl Symbols {
-    /// The empty table.
+    /// The empty table. It takes no memory, and always answers the table.
     pub fn new(alloc: Global) -> Result<Symbols, NoMemory>
-        ensures { IfOk result (λ table. table ≡ []) }
+        ensures { IsOkAnd result (λ table. table ≡ []) }
     {
         Ok(Symbols {
             alloc,
@@ -74,7 +74,7 @@ impl Symbols {
         self.entries.len() == 0
     }
 
-    /// The name of a symbol, as bytes 32 to 126 without quotes and escapes.
+    /// The name of a symbol, without quotes and escapes.
     pub fn name(&self, id: u32) -> &str
         requires { id < length self.now }
         ensures { IfSome (slice_get self.now id) (λ symbol. result.now ≡ symbol.name) }

@@ -1,54 +1,38 @@
-use Rattle.std.proofs.Common.{◌≡◌, ◌-◌, ◌<◌, ◌≤◌, ◌++◌, length, List, Some, All, map, subst, sym, ap, ◌∙◌, arith, codes, get_or}
+use Rattle.std.proofs.Common.{◌≡◌, ◌-◌, ◌++◌, length, List, Some, All, map, subst, sym, ap, ◌∙◌, arith, codes, get_or}
 use Rattle.mg_word.specs.Facts.{ProblemData}
 use Rattle.mg_word.specs.Spelling.{spelled_name, spelled_pattern_lit}
 use Rattle.mg_word.specs.declared.clause.Clause.{Clause}
 use Rattle.mg_word.specs.declared.form.Form.{Form}
 use Rattle.mg_word.specs.declared.lit.PatLit.{PatLit}
 use Rattle.clause_form.specs.Lines.{IsSpelled, line_head, premises_part, conclusions_part, form_line, line_of}
-use Rattle.clause_form.proofs.FormFacts.{IsRight, right_at, all_spelled, four_added, line_at}
+use Rattle.clause_form.proofs.FormFacts.{numbered_right, all_spelled, four_added, line_at}
 use Rattle.clause_form.proofs.line.form_text.Goals as goal
 
 pub bounds-as_slice-arrow : goal.bounds-as_slice-arrow
 bounds-as_slice-arrow c =
-    let place : c.args.form ≤ length c.problem.inside.forms = subst (λ (problem : ProblemData). c.args.form ≤ length problem.forms) (sym c.problem.view_is) c.requires.within in
-    let count : length c.as_slice.result.now ≡ length c.problem.inside.forms = ap (λ (forms : List Form). length forms) c.as_slice.ensures in
-    let within : c.args.form - 1 < length c.as_slice.result.now = omega (arith, c.requires.above) in
-    let right : IsRight c.problem.inside.symbols (length c.problem.inside.clauses) c.index-as_slice-form.result =
-    right_at c.problem.inside.symbols (length c.problem.inside.files) c.problem.inside.clauses c.problem.inside.forms c.as_slice.result.now (c.args.form - 1) c.index-as_slice-form.result
-    c.problem.invariant.input.each c.problem.invariant.formed c.as_slice.ensures within c.index-as_slice-form.is in
+    let right = numbered_right c.args.problem.now c.problem.inside.symbols c.problem.inside.files c.problem.inside.clauses c.problem.inside.forms c.as_slice.result.now c.args.form c.index-as_slice-form.result
+    c.problem.view_is c.problem.invariant.input.each c.problem.invariant.formed c.as_slice.ensures c.requires.above c.requires.within c.index-as_slice-form.is in
     let clauses : length c.as_slice-2.result.now ≡ length c.problem.inside.clauses = ap (λ (cs : List Clause). length cs) c.as_slice-2.ensures in
-    omega (arith, right.known, clauses)
+    omega (arith, right.1.known, clauses)
 
 pub push_premises-requires : goal.push_premises-requires
 push_premises-requires c =
-    let place : c.args.form ≤ length c.problem.inside.forms = subst (λ (problem : ProblemData). c.args.form ≤ length problem.forms) (sym c.problem.view_is) c.requires.within in
-    let count : length c.as_slice.result.now ≡ length c.problem.inside.forms = ap (λ (forms : List Form). length forms) c.as_slice.ensures in
-    let within : c.args.form - 1 < length c.as_slice.result.now = omega (arith, c.requires.above) in
-    let right : IsRight c.problem.inside.symbols (length c.problem.inside.clauses) c.index-as_slice-form.result =
-    right_at c.problem.inside.symbols (length c.problem.inside.files) c.problem.inside.clauses c.problem.inside.forms c.as_slice.result.now (c.args.form - 1) c.index-as_slice-form.result
-    c.problem.invariant.input.each c.problem.invariant.formed c.as_slice.ensures within c.index-as_slice-form.is in
+    let right = numbered_right c.args.problem.now c.problem.inside.symbols c.problem.inside.files c.problem.inside.clauses c.problem.inside.forms c.as_slice.result.now c.args.form c.index-as_slice-form.result
+    c.problem.view_is c.problem.invariant.input.each c.problem.invariant.formed c.as_slice.ensures c.requires.above c.requires.within c.index-as_slice-form.is in
     subst (λ (lits : List PatLit). All (IsSpelled c.problem.inside.symbols) lits) (sym c.as_slice-3.ensures)
-    (all_spelled c.problem.inside.symbols c.index-as_slice-form.result.variables c.index-as_slice-form.result.premises right.premises)
+    (all_spelled c.problem.inside.symbols c.index-as_slice-form.result.variables c.index-as_slice-form.result.premises right.1.premises)
 
 pub push_conclusions-requires : goal.push_conclusions-requires
 push_conclusions-requires c =
-    let place : c.args.form ≤ length c.problem.inside.forms = subst (λ (problem : ProblemData). c.args.form ≤ length problem.forms) (sym c.problem.view_is) c.requires.within in
-    let count : length c.as_slice.result.now ≡ length c.problem.inside.forms = ap (λ (forms : List Form). length forms) c.as_slice.ensures in
-    let within : c.args.form - 1 < length c.as_slice.result.now = omega (arith, c.requires.above) in
-    let right : IsRight c.problem.inside.symbols (length c.problem.inside.clauses) c.index-as_slice-form.result =
-    right_at c.problem.inside.symbols (length c.problem.inside.files) c.problem.inside.clauses c.problem.inside.forms c.as_slice.result.now (c.args.form - 1) c.index-as_slice-form.result
-    c.problem.invariant.input.each c.problem.invariant.formed c.as_slice.ensures within c.index-as_slice-form.is in
+    let right = numbered_right c.args.problem.now c.problem.inside.symbols c.problem.inside.files c.problem.inside.clauses c.problem.inside.forms c.as_slice.result.now c.args.form c.index-as_slice-form.result
+    c.problem.view_is c.problem.invariant.input.each c.problem.invariant.formed c.as_slice.ensures c.requires.above c.requires.within c.index-as_slice-form.is in
     subst (λ (lits : List PatLit). All (IsSpelled c.problem.inside.symbols) lits) (sym c.as_slice-4.ensures)
-    (all_spelled c.problem.inside.symbols c.index-as_slice-form.result.variables c.index-as_slice-form.result.conclusions right.conclusions)
+    (all_spelled c.problem.inside.symbols c.index-as_slice-form.result.variables c.index-as_slice-form.result.conclusions right.1.conclusions)
 
 pub returns : goal.returns
 returns c =
-    let place : c.args.form ≤ length c.problem.inside.forms = subst (λ (problem : ProblemData). c.args.form ≤ length problem.forms) (sym c.problem.view_is) c.requires.within in
-    let count : length c.as_slice.result.now ≡ length c.problem.inside.forms = ap (λ (forms : List Form). length forms) c.as_slice.ensures in
-    let within : c.args.form - 1 < length c.as_slice.result.now = omega (arith, c.requires.above) in
-    let right : IsRight c.problem.inside.symbols (length c.problem.inside.clauses) c.index-as_slice-form.result =
-    right_at c.problem.inside.symbols (length c.problem.inside.files) c.problem.inside.clauses c.problem.inside.forms c.as_slice.result.now (c.args.form - 1) c.index-as_slice-form.result
-    c.problem.invariant.input.each c.problem.invariant.formed c.as_slice.ensures within c.index-as_slice-form.is in
+    let right = numbered_right c.args.problem.now c.problem.inside.symbols c.problem.inside.files c.problem.inside.clauses c.problem.inside.forms c.as_slice.result.now c.args.form c.index-as_slice-form.result
+    c.problem.view_is c.problem.invariant.input.each c.problem.invariant.formed c.as_slice.ensures c.requires.above c.requires.within c.index-as_slice-form.is in
     let arrow = c.index-as_slice-form.result in
     let clause = c.index-as_slice-arrow.result in
     let spell = spelled_pattern_lit c.problem.inside.symbols in
@@ -62,4 +46,4 @@ returns c =
     c.push_head.new.into.items c.push_premises.new.into.items c.extend_from_slice.new.self.items c.push_conclusions.new.into.items
     c.new-bytes.ensures.items c.in_ok-push_head.ensures third c.in_ok-extend_from_slice.ensures.items fifth in
     subst (λ (problem : ProblemData). line_of problem c.args.form ≡ Some c.new.result) c.problem.view_is
-    (line_at c.problem.inside.symbols c.problem.inside.files c.problem.inside.clauses c.problem.inside.forms c.args.form arrow clause c.new.result c.requires.above place form_is right.known clause_is text_is)
+    (line_at c.problem.inside.symbols c.problem.inside.files c.problem.inside.clauses c.problem.inside.forms c.args.form arrow clause c.new.result c.requires.above right.0 form_is right.1.known clause_is text_is)

@@ -23,18 +23,10 @@ returns-in-Err-clause-answer c =
     let clauses_are : c.in_ok-clauses.clauses ≡ renumbered c.in_ok-symbols.numbers.items c.input.inside.clauses =
     copied_from c.as_slice.result.now c.in_ok-symbols.numbers.items c.as_slice-2.result.now c.input.inside.clauses c.in_ok-clauses.clauses c.as_slice.ensures.value c.as_slice-2.ensures c.in_ok-clauses.ensures in
     let at_copy : Stands c.in_ok-clauses.clauses c.in-Err.fault = subst (λ (cs : List Clause). Stands cs c.in-Err.fault) c.as_slice-3.ensures c.in-Err.ensures in
-    let at_input : Stands c.args.input.now.clauses c.in-Err.fault =
-    subst (λ (input : InputData). Stands input.clauses c.in-Err.fault) c.input.view_is (copied_stands c.in_ok-symbols.numbers.items c.input.inside.clauses c.in_ok-clauses.clauses c.in-Err.fault clauses_are at_copy) in
-    at_input
+    subst (λ (input : InputData). Stands input.clauses c.in-Err.fault) c.input.view_is (copied_stands c.in_ok-symbols.numbers.items c.input.inside.clauses c.in_ok-clauses.clauses c.in-Err.fault clauses_are at_copy)
 
 pub returns-in-Err-clause-exact : goal.returns-in-Err-clause-exact
-returns-in-Err-clause-exact c =
-    let clauses_are : c.in_ok-clauses.clauses ≡ renumbered c.in_ok-symbols.numbers.items c.input.inside.clauses =
-    copied_from c.as_slice.result.now c.in_ok-symbols.numbers.items c.as_slice-2.result.now c.input.inside.clauses c.in_ok-clauses.clauses c.as_slice.ensures.value c.as_slice-2.ensures c.in_ok-clauses.ensures in
-    let at_copy : Stands c.in_ok-clauses.clauses c.in-Err.fault = subst (λ (cs : List Clause). Stands cs c.in-Err.fault) c.as_slice-3.ensures c.in-Err.ensures in
-    let at_input : Stands c.args.input.now.clauses c.in-Err.fault =
-    subst (λ (input : InputData). Stands input.clauses c.in-Err.fault) c.input.view_is (copied_stands c.in_ok-symbols.numbers.items c.input.inside.clauses c.in_ok-clauses.clauses c.in-Err.fault clauses_are at_copy) in
-    none_formed c.args.input.now c.in-Err.fault at_input
+returns-in-Err-clause-exact c = none_formed c.args.input.now c.in-Err.fault (returns-in-Err-clause-answer c)
 
 pub invariant_of-result : goal.invariant_of-result
 invariant_of-result c =

@@ -1,8 +1,8 @@
-use Rattle.std.proofs.Common.{◌≡◌, ◌<◌, ℕ, zero, suc, Bool, true, List, [], ◌∷◌, refl, sym, ◌∙◌, ap, subst, arith}
+use Rattle.std.proofs.Common.{◌≡◌, ◌<◌, ◌≤◌, ℕ, zero, suc, Bool, true, false, List, [], ◌∷◌, length, refl, sym, ◌∙◌, ap, subst, arith}
 use Rattle.std.proofs.lemmas.List.Elements.{All-nil, All-cons}
 use Rattle.std.specs.List.{flat_map}
 use Rattle.mg_word.specs.Table.{Symbol}
-use Rattle.mg_word.specs.Forms.{is_among}
+use Rattle.mg_word.specs.Forms.{conclusions_of, is_among}
 use Rattle.mg_word.specs.Facts.{IsClause, IsInput, literal_variables}
 use Rattle.mg_word.specs.declared.clause.Clause.{Clause}
 use Rattle.clause_form.specs.Samples.{one_literal}
@@ -12,11 +12,17 @@ only_variable : (negative : Bool) (variable : ℕ) → variable < 1 → is_among
 only_variable negative zero h = refl
 only_variable negative (suc k) h = absurd (omega arith)
 
+few_positive : (negative : Bool) → length (conclusions_of (one_literal negative).literals) ≤ 64
+few_positive true = omega arith
+few_positive false = omega arith
+
 one_clause : (negative : Bool) → IsClause [] 1 (one_literal negative)
 one_clause negative = record {
   fitting = refl;
   occurring = only_variable negative;
   choices = refl;
+  positives = few_positive negative;
+  positions = All-nil (λ chosen. length chosen ≤ 64);
   place = omega arith;
   literals = omega arith;
   variables = omega arith;

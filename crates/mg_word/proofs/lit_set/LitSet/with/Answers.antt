@@ -1,6 +1,6 @@
 use Rattle.std.proofs.Common.{◌≡◌, true, Ok, sym}
 use Rattle.mg_word.specs.Sets.{is_rising}
-use Rattle.mg_word.proofs.RisingLists.{rising_with}
+use Rattle.mg_word.proofs.RisingLists.{rising-with_lit}
 use Rattle.mg_word.proofs.SortedLits.{search_exact, search_place, with_held}
 use Rattle.mg_word.proofs.lit_set.LitSet.with.Goals as goal
 
@@ -9,7 +9,7 @@ invariant_of-result c =
     let list = c.as_slice.ensures.value in
     let rising : is_rising c.as_slice.result.now ≡ true = rw list c.self.invariant in
     let place = search_place c.as_slice.result.now c.args.lit c.in-Err.at rising c.in-Err.ensures.bound c.in-Err.ensures.position in
-    rw (c.in_ok-insert-in-Err.ensures.items, ← list, ← place) (rising_with c.as_slice.result.now c.args.lit rising)
+    rw (c.in_ok-insert-in-Err.ensures.items, ← list, ← place) (rising-with_lit c.as_slice.result.now c.args.lit rising)
 
 pub returns-in-Ok : goal.returns-in-Ok
 returns-in-Ok c =
