@@ -3,7 +3,8 @@ use Rattle.std.proofs.Common.{◌≡◌, ◌≢◌, ℕ, ◌+◌, ◌<◌, Bool,
 use Rattle.std.proofs.lemmas.List.{drop_more}
 use Rattle.proof_tree.specs.DocText.{start, kept, passed, bare_from, bare}
 use Rattle.proof_tree.specs.DocFaults.{is_no_feed, has_no_feed, begins_with, BeginsWithLine}
-use Rattle.proof_tree.proofs.Texts.{both, joined, not_true, stops}
+use Rattle.mg_word.proofs.Members.{both_true, and_true}
+use Rattle.proof_tree.proofs.Texts.{not_true, stops}
 
 no_feed : (byte : ℕ) → is_no_feed byte ≡ true → nat_eq byte 10 ≡ false
 no_feed byte is = not_true (nat_eq byte 10) is
@@ -17,34 +18,34 @@ passed_on byte bytes is = ap (λ b. bare_from (if b then start else passed) byte
 kept_line : (line after : List ℕ) → has_no_feed line ≡ true → bare_from kept (line ++ 10 ∷ after) ≡ line ++ 10 ∷ bare after
 kept_line [] after one = refl
 kept_line (byte ∷ line) after one =
-    let parts = both (is_no_feed byte) (has_no_feed line) one in
+    let parts = both_true (is_no_feed byte) (has_no_feed line) one in
     kept_on byte (line ++ 10 ∷ after) (no_feed byte parts.0) ∙ ap (λ l. byte ∷ l) (kept_line line after parts.1)
 
 passed_line : (line after : List ℕ) → has_no_feed line ≡ true → bare_from passed (line ++ 10 ∷ after) ≡ bare after
 passed_line [] after one = refl
 passed_line (byte ∷ line) after one =
-    let parts = both (is_no_feed byte) (has_no_feed line) one in
+    let parts = both_true (is_no_feed byte) (has_no_feed line) one in
     passed_on byte (line ++ 10 ∷ after) (no_feed byte parts.0) ∙ passed_line line after parts.1
 
 kept_end : (line : List ℕ) → has_no_feed line ≡ true → bare_from kept line ≡ line
 kept_end [] one = refl
 kept_end (byte ∷ line) one =
-    let parts = both (is_no_feed byte) (has_no_feed line) one in
+    let parts = both_true (is_no_feed byte) (has_no_feed line) one in
     kept_on byte line (no_feed byte parts.0) ∙ ap (λ l. byte ∷ l) (kept_end line parts.1)
 
 passed_end : (line : List ℕ) → has_no_feed line ≡ true → bare_from passed line ≡ []
 passed_end [] one = refl
 passed_end (byte ∷ line) one =
-    let parts = both (is_no_feed byte) (has_no_feed line) one in
+    let parts = both_true (is_no_feed byte) (has_no_feed line) one in
     passed_on byte line (no_feed byte parts.0) ∙ passed_end line parts.1
 
 tested : (byte : ℕ) (bytes : List ℕ) (b : Bool) → begins_with (37 ∷ []) (byte ∷ bytes) ≡ b → nat_eq byte 37 ≡ b
-tested byte bytes true is = eq-eqb byte 37 (sym (eqb-true 37 byte (both (nat_eq 37 byte) true is).0))
+tested byte bytes true is = eq-eqb byte 37 (sym (eqb-true 37 byte (both_true (nat_eq 37 byte) true is).0))
 tested byte bytes false is = by (nat_eq byte 37) refl
   where
     by : (b : Bool) → nat_eq byte 37 ≡ b → b ≡ false
     by false other = refl
-    by true same = absurd (true≢false (sym (joined (nat_eq 37 byte) true (eq-eqb 37 byte (sym (eqb-true byte 37 same))) refl) ∙ is))
+    by true same = absurd (true≢false (sym (and_true (nat_eq 37 byte) true (eq-eqb 37 byte (sym (eqb-true byte 37 same))) refl) ∙ is))
 
 first_kept : (byte : ℕ) (bytes : List ℕ) → nat_eq byte 37 ≡ false → nat_eq byte 10 ≡ false → bare (byte ∷ bytes) ≡ byte ∷ bare_from kept bytes
 first_kept byte bytes other one =
@@ -58,26 +59,26 @@ first_passed byte bytes is =
 pub line_kept : (line after : List ℕ) → has_no_feed line ≡ true → begins_with (37 ∷ []) (line ++ 10 ∷ after) ≡ false → BeginsWithLine (bare (line ++ 10 ∷ after)) line (bare after)
 line_kept [] after one other = record { one = refl; split = refl }
 line_kept (byte ∷ line) after one other =
-    let parts = both (is_no_feed byte) (has_no_feed line) one in
+    let parts = both_true (is_no_feed byte) (has_no_feed line) one in
     record { one = one; split = first_kept byte (line ++ 10 ∷ after) (tested byte (line ++ 10 ∷ after) false other) (no_feed byte parts.0) ∙ ap (λ l. byte ∷ l) (kept_line line after parts.1) }
 
 -- the line is passed over
 pub line_passed : (line after : List ℕ) → has_no_feed line ≡ true → begins_with (37 ∷ []) (line ++ 10 ∷ after) ≡ true → bare (line ++ 10 ∷ after) ≡ bare after
 line_passed [] after one is = absurd (true≢false (sym is))
 line_passed (byte ∷ line) after one is =
-    let parts = both (is_no_feed byte) (has_no_feed line) one in
+    let parts = both_true (is_no_feed byte) (has_no_feed line) one in
     first_passed byte (line ++ 10 ∷ after) (tested byte (line ++ 10 ∷ after) true is) ∙ passed_line line after parts.1
 
 pub end_passed : (line : List ℕ) → has_no_feed line ≡ true → begins_with (37 ∷ []) line ≡ true → bare line ≡ []
 end_passed [] one is = refl
 end_passed (byte ∷ line) one is =
-    let parts = both (is_no_feed byte) (has_no_feed line) one in
+    let parts = both_true (is_no_feed byte) (has_no_feed line) one in
     first_passed byte line (tested byte line true is) ∙ passed_end line parts.1
 
 pub end_kept : (line : List ℕ) → (length line ≡ 0 → ⊥) → has_no_feed line ≡ true → begins_with (37 ∷ []) line ≡ false → (bare line ≢ []) × (has_no_feed (bare line) ≡ true)
 end_kept [] some one other = absurd (some refl)
 end_kept (byte ∷ line) some one other =
-    let parts = both (is_no_feed byte) (has_no_feed line) one in
+    let parts = both_true (is_no_feed byte) (has_no_feed line) one in
     let is = first_kept byte line (tested byte line false other) (no_feed byte parts.0) ∙ ap (λ l. byte ∷ l) (kept_end line parts.1) in
     (λ none. nothing byte line (sym is ∙ none), ap has_no_feed is ∙ one)
   where

@@ -14,7 +14,8 @@ use Rattle.std.proofs.Common.{inl, inr}
 use Rattle.std.proofs.lemmas.Bool.Decides.{nat_tests}
 use Rattle.mg_word.specs.Facts.{is_digit}
 use Rattle.proof_tree.specs.Numbers.{IsValue, IsNumberAt, IsOnlyNumber, ends_number, leads_with_zero}
-use Rattle.proof_tree.proofs.Texts.{both, joined, stops, IsCut, cut_unique}
+use Rattle.mg_word.proofs.Members.{both_true, and_true}
+use Rattle.proof_tree.proofs.Texts.{stops, IsCut, cut_unique}
 
 pub decimal_value : (n : ℕ) → n < 2 ^ 32 → digits_value 10 (decimal n) ≡ n
 decimal_value n small = (decimal_is_IsNumeral n (omega arith)).1
@@ -27,7 +28,7 @@ digit_in c (low, high) = grind (arith, nat_tests)
 
 all_digits : (ds : List ℕ) → AllDigits 10 ds → list_all is_digit ds ≡ true
 all_digits [] are = refl
-all_digits (c ∷ ds) are = joined (is_digit c) (list_all is_digit ds) (digit_in c (digit_from_value c are.0)) (all_digits ds are.1)
+all_digits (c ∷ ds) are = and_true (is_digit c) (list_all is_digit ds) (digit_in c (digit_from_value c are.0)) (all_digits ds are.1)
 
 pub decimal_digits : (n : ℕ) → n < 2 ^ 32 → list_all is_digit (decimal n) ≡ true
 decimal_digits n small = all_digits (decimal n) (decimal_is_IsNumeral n (omega arith)).0.1
@@ -68,8 +69,8 @@ digit_range c digit = (grind (arith, nat_tests), grind (arith, nat_tests))
 
 pub digit_at : (digits : List ℕ) (i : ℕ) → i < length digits → list_all is_digit digits ≡ true → is_digit (slice_index_or digits i 0) ≡ true
 digit_at [] i within all = absurd (omega arith)
-digit_at (c ∷ digits) zero within all = (both (is_digit c) (list_all is_digit digits) all).0
-digit_at (c ∷ digits) (suc i) within all = digit_at digits i (omega arith) (both (is_digit c) (list_all is_digit digits) all).1
+digit_at (c ∷ digits) zero within all = (both_true (is_digit c) (list_all is_digit digits) all).0
+digit_at (c ∷ digits) (suc i) within all = digit_at digits i (omega arith) (both_true (is_digit c) (list_all is_digit digits) all).1
 
 -- the value of one digit more
 pub value_more : (digits : List ℕ) (i value : ℕ) → i < length digits → list_all is_digit digits ≡ true → value ≡ digits_value 10 (take i digits) → 10 * value + (slice_index_or digits i 0 - 48) ≡ digits_value 10 (take (i + 1) digits)
@@ -136,7 +137,7 @@ some_more [] i value within all leads long some = absurd (omega arith)
 some_more (first ∷ []) i value within all leads long some = absurd (omega arith)
 some_more (first ∷ second ∷ digits) (suc i) value within all leads long some = omega (arith, some (omega arith) long)
 some_more (first ∷ second ∷ digits) zero value within all leads long some =
-    let digit = digit_range first (both (is_digit first) (list_all is_digit (second ∷ digits)) all).0 in
+    let digit = digit_range first (both_true (is_digit first) (list_all is_digit (second ∷ digits)) all).0 in
     omega (arith, digit.0, no_zero first leads)
   where
     no_zero : (b : ℕ) → nat_eq b 48 ≡ false → (b ≡ 48 → ⊥)

@@ -13,7 +13,7 @@ use Rattle.tree_checker.specs.declared.doc_fault.DocFault.TheVariants.{Line, NoM
 use Rattle.proof_tree.specs.DocText.{line_text, ended, header, root_word, blocks_lines, bare, IsDocText}
 use Rattle.proof_tree.specs.DocFaults.{has_no_feed, BeginsWithLine, FaultAt, LineFault, Place, at_header, at_root, in_tree, FirstFault, IsDocFault}
 use Rattle.proof_tree.specs.Lines.{IsTreeText, TreeFault, IsOnlyTree}
-use Rattle.proof_tree.proofs.TreeFronts.{feed_in, line_unique}
+use Rattle.proof_tree.proofs.LineFeeds.{feed_in, line_unique}
 
 -- what is wrong with a text that begins with that line is so of the line
 fault_in_line : (problem : ProblemData) (place : Place) (text line after : List ℕ) (kind : DocKind) → has_no_feed line ≡ true → text ≡ line ++ 10 ∷ after → FaultAt problem place text kind → LineFault problem place line kind

@@ -3,7 +3,6 @@ use Rattle.std.proofs.Common.{◌≡◌, ◌≢◌, ℕ, zero, suc, ◌+◌, ◌
 use Rattle.std.specs.List.{list_all}
 use Rattle.std.specs.Option.{option_map_or, option_to_list}
 use Rattle.std.specs.Fmt.{decimal}
-use Rattle.std.proofs.lemmas.Bool.{cases_order}
 use Rattle.std.proofs.lemmas.Option.{slice_get_within, get_or_from_slice_get, slice_get_cases}
 use Rattle.std.proofs.lemmas.List.Elements.{All-head, All-tail, All-cons, All-nil, All-map}
 use Rattle.mg_word.specs.Table.{Symbol}
@@ -11,6 +10,8 @@ use Rattle.mg_word.specs.Words.{are_terms, numbered}
 use Rattle.mg_word.specs.Facts.{ProblemData, is_symbol}
 use Rattle.mg_word.specs.Spelling.{spelled, spelled_symbols, symbols_at}
 use Rattle.mg_word.specs.declared.form.Form.{Form}
+use Rattle.mg_word.proofs.AppliedWords.{at_symbol}
+use Rattle.mg_word.proofs.Different.{number_unique}
 use Rattle.tree_checker.specs.Docs.{IsWordOf}
 use Rattle.tree_checker.specs.declared.doc.TreeLine.{TreeLine}
 use Rattle.tree_checker.specs.declared.doc.TreeLine.TheVariants.{Form as FormLine, Clash, Barred, By}
@@ -21,26 +22,17 @@ use Rattle.proof_tree.specs.Lists.{AreNumbers, AreWords, IsLight, NoList, IsList
 use Rattle.proof_tree.specs.Lines.{IsLineOf, IsOnlyLine, IsNoLine, IsSplitSo, IsOnlySplit, IsNumbered, IsRefused}
 use Rattle.proof_tree.specs.declared.form_lines.LineFault.{LineFault as Fault}
 use Rattle.proof_tree.specs.declared.form_lines.LineFault.TheVariants.{Wrong, NoMemory}
-use Rattle.proof_tree.proofs.Texts.{both, joined}
+use Rattle.mg_word.proofs.Members.{both_true, and_true}
 
 pub any_all : {X : Type 0} (P Q : X → Type 0) (xs : List X) → ((x : X) → P x → Q x → ⊥) → Any P xs → All Q xs → ⊥
 any_all P Q xs clash some all = clash some.1 some.4 (subst Q some.3 (all some.0 some.1 some.2))
 
 pub passes_at : {X : Type 0} (p : X → Bool) (xs : List X) (i : ℕ) (x : X) → list_all p xs ≡ true → slice_get xs i ≡ Some x → p x ≡ true
 passes_at p [] i x all is = cc
-passes_at p (y ∷ xs) zero x all is = let same : y ≡ x = cc in ap p (sym same) ∙ (both (p y) (list_all p xs) all).0
-passes_at p (y ∷ xs) (suc i) x all is = passes_at p xs i x (both (p y) (list_all p xs) all).1 is
+passes_at p (y ∷ xs) zero x all is = let same : y ≡ x = cc in ap p (sym same) ∙ (both_true (p y) (list_all p xs) all).0
+passes_at p (y ∷ xs) (suc i) x all is = passes_at p xs i x (both_true (p y) (list_all p xs) all).1 is
 
 module _ (table : List Symbol) (named : list_all is_symbol table ≡ true) where
-  -- what one symbol of a word says
-  at_symbol : {P : Type 0} (symbol wanted : ℕ) (word : List ℕ) → option_map_or (λ entry. are_terms table (entry.arity + wanted) word) (slice_get table symbol) false ≡ true
-      → ((entry : Symbol) → slice_get table symbol ≡ Some entry → are_terms table (entry.arity + wanted) word ≡ true → P) → P
-  at_symbol {P} symbol wanted word fit go = by (slice_get table symbol) refl fit
-    where
-      by : (found : Option Symbol) → slice_get table symbol ≡ found → option_map_or (λ entry. are_terms table (entry.arity + wanted) word) found false ≡ true → P
-      by None is fit = absurd (true≢false (sym fit))
-      by (Some entry) is fit = go entry is fit
-
   symbols_cons : (symbol : ℕ) (word : List ℕ) (entry : Symbol) → slice_get table symbol ≡ Some entry → symbols_at table (symbol ∷ word) ≡ entry ∷ symbols_at table word
   symbols_cons symbol word entry is = ap (λ found. option_to_list found ++ symbols_at table word) is
 
@@ -50,7 +42,7 @@ module _ (table : List Symbol) (named : list_all is_symbol table ≡ true) where
   own_word (suc wanted) [] fit = absurd (true≢false (sym fit))
   own_word (suc wanted) (symbol ∷ word) fit =
       let rest = λ (n : ℕ). own_word n word in
-      at_symbol symbol wanted word fit (λ entry is fit'. subst (λ l. are_own_terms (suc wanted) l ≡ true) (sym (symbols_cons symbol word entry is)) (joined (is_symbol entry) (are_own_terms (entry.arity + wanted) (symbols_at table word)) (passes_at is_symbol table symbol entry named is) (rest (entry.arity + wanted) fit')))
+      at_symbol table symbol wanted word fit (λ entry is fit'. subst (λ l. are_own_terms (suc wanted) l ≡ true) (sym (symbols_cons symbol word entry is)) (and_true (is_symbol entry) (are_own_terms (entry.arity + wanted) (symbols_at table word)) (passes_at is_symbol table symbol entry named is) (rest (entry.arity + wanted) fit')))
 
   numbers_word : (wanted : ℕ) (word : List ℕ) → are_terms table wanted word ≡ true → AreNumbers table word (symbols_at table word)
   numbers_word zero [] fit = tt
@@ -58,14 +50,14 @@ module _ (table : List Symbol) (named : list_all is_symbol table ≡ true) where
   numbers_word (suc wanted) [] fit = absurd (true≢false (sym fit))
   numbers_word (suc wanted) (symbol ∷ word) fit =
       let rest = λ (n : ℕ). numbers_word n word in
-      at_symbol symbol wanted word fit (λ entry is fit'. subst (AreNumbers table (symbol ∷ word)) (sym (symbols_cons symbol word entry is)) (is, rest (entry.arity + wanted) fit'))
+      at_symbol table symbol wanted word fit (λ entry is fit'. subst (AreNumbers table (symbol ∷ word)) (sym (symbols_cons symbol word entry is)) (is, rest (entry.arity + wanted) fit'))
 
   wanted_within : (wanted : ℕ) (word : List ℕ) → are_terms table wanted word ≡ true → wanted ≤ length word
   wanted_within zero word fit = omega arith
   wanted_within (suc wanted) [] fit = absurd (true≢false (sym fit))
   wanted_within (suc wanted) (symbol ∷ word) fit =
       let rest = λ (n : ℕ). wanted_within n word in
-      at_symbol symbol wanted word fit (λ entry is fit'. omega (arith, rest (entry.arity + wanted) fit'))
+      at_symbol table symbol wanted word fit (λ entry is fit'. omega (arith, rest (entry.arity + wanted) fit'))
 
   known_word : (wanted : ℕ) (word : List ℕ) → are_terms table wanted word ≡ true → length word < 2 ^ 32 → AllKnown table (symbols_at table word)
   known_word zero [] fit short = All-nil (IsSymbolOf table)
@@ -73,7 +65,7 @@ module _ (table : List Symbol) (named : list_all is_symbol table ≡ true) where
   known_word (suc wanted) [] fit short = absurd (true≢false (sym fit))
   known_word (suc wanted) (symbol ∷ word) fit short =
       let rest = λ (n : ℕ). known_word n word in
-      at_symbol symbol wanted word fit (λ entry is fit'. subst (AllKnown table) (sym (symbols_cons symbol word entry is)) (All-cons (IsSymbolOf table) entry (symbols_at table word) (record { held = (symbol, slice_get_within table symbol entry is, get_or_from_slice_get table symbol entry entry is); small = omega (arith, wanted_within (entry.arity + wanted) word fit', short) }) (rest (entry.arity + wanted) fit' (omega (arith, short)))))
+      at_symbol table symbol wanted word fit (λ entry is fit'. subst (AllKnown table) (sym (symbols_cons symbol word entry is)) (All-cons (IsSymbolOf table) entry (symbols_at table word) (record { held = (symbol, slice_get_within table symbol entry is, get_or_from_slice_get table symbol entry entry is); small = omega (arith, wanted_within (entry.arity + wanted) word fit', short) }) (rest (entry.arity + wanted) fit' (omega (arith, short)))))
 
   symbols_of_numbers : (word : List ℕ) (term : List Symbol) → AreNumbers table word term → symbols_at table word ≡ term
   symbols_of_numbers [] [] are = refl
@@ -89,7 +81,7 @@ module _ (table : List Symbol) (named : list_all is_symbol table ≡ true) where
   numbers_fit zero (number ∷ word) (symbol ∷ term) are own = own
   numbers_fit (suc wanted) (number ∷ word) (symbol ∷ term) are own =
       ap (λ found. option_map_or (λ entry. are_terms table (entry.arity + wanted) word) found false) are.0
-      ∙ numbers_fit (symbol.arity + wanted) word term are.1 (both (is_symbol symbol) (are_own_terms (symbol.arity + wanted) term) own).1
+      ∙ numbers_fit (symbol.arity + wanted) word term are.1 (both_true (is_symbol symbol) (are_own_terms (symbol.arity + wanted) term) own).1
 
   numbers_length : (word : List ℕ) (term : List Symbol) → AreNumbers table word term → length word ≡ length term
   numbers_length [] [] are = refl
@@ -98,14 +90,6 @@ module _ (table : List Symbol) (named : list_all is_symbol table ≡ true) where
   numbers_length (number ∷ word) (symbol ∷ term) are = ap suc (numbers_length word term are.1)
 
   module _ (different : AllPairs (λ a b. a ≢ b) table) where
-    number_unique : (i j : ℕ) (value : Symbol) → slice_get table i ≡ Some value → slice_get table j ≡ Some value → i ≡ j
-    number_unique i j value here there =
-        let left = get_or_from_slice_get table i value value here in
-        let right = get_or_from_slice_get table j value value there in
-        let inside = slice_get_within table i value here in
-        let within = slice_get_within table j value there in
-        elim (cases_order i j) [ inl same ↦ same | inr apart_by ↦ elim apart_by [ inl less ↦ absurd (different i j value less within (left ∙ sym right)) | inr more ↦ absurd (different j i value more inside (right ∙ sym left)) ] ]
-
     numbers_same : (a b : List ℕ) (term : List Symbol) → AreNumbers table a term → AreNumbers table b term → a ≡ b
     numbers_same [] [] [] p q = refl
     numbers_same [] b (s ∷ term) p q = elim p [ ]
@@ -113,7 +97,7 @@ module _ (table : List Symbol) (named : list_all is_symbol table ≡ true) where
     numbers_same (x ∷ a) b [] p q = elim p [ ]
     numbers_same a (y ∷ b) [] p q = elim q [ ]
     numbers_same (x ∷ a) (y ∷ b) (s ∷ term) p q =
-        let first = number_unique x y s p.0 q.0 in
+        let first = number_unique table different x y s p.0 q.0 in
         let rest = numbers_same a b term p.1 q.1 in
         cc
 

@@ -1,8 +1,12 @@
+mod Examples
 pub mod Texts
 pub mod Quotes
 pub mod NameShapes
 pub mod Cuts
+pub mod Reaching
+pub mod AheadNames
 pub mod TermSteps
+pub mod TermEnds
 pub mod RawTerms
 pub mod TermReading
 pub mod LookUps
@@ -11,5 +15,7 @@ pub mod BareLines
 pub mod Verdicts
 pub mod Listing
 pub mod FormLines
+pub mod TreeCounts
+pub mod LineFeeds
 pub mod TreeFronts
 pub mod Documents

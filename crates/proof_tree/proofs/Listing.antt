@@ -9,7 +9,8 @@ use Rattle.proof_tree.specs.Terms.{ends_term, IsTermAt, IsOnlyTerm, NoTerm}
 use Rattle.proof_tree.specs.Lists.{IsListAt, IsOnlyList, NoList, IsNextTerm, IsListing}
 use Rattle.proof_tree.proofs.Texts.{heads, tails}
 use Rattle.proof_tree.proofs.NameShapes.{none_other}
-use Rattle.proof_tree.proofs.TermSteps.{stuck_name, starts_ahead}
+use Rattle.proof_tree.proofs.Reaching.{starts_ahead}
+use Rattle.proof_tree.proofs.TermEnds.{stuck_name}
 
 abbrev texts : List (List Symbol) → List (List ℕ)
 texts terms = map spelled_symbols terms

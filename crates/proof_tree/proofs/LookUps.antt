@@ -1,38 +1,35 @@
 -- What the look-up of a symbol in the table finds.
 use Rattle.std.proofs.Common.{◌≡◌, ℕ, zero, suc, ◌^◌, ◌≤◌, ◌<◌, true, nat_eq, List, [], ◌∷◌, length, drop, slice_index_or, slice_get, Contains, Option, Some, None, IsNone, IfSome, MatchOption, ◌↔◌, refl, sym, ap, ◌∙◌, subst, length-drop, arith}
 use Rattle.std.specs.List.{list_all}
-use Rattle.std.proofs.lemmas.Bool.Decides.{nat_tests}
 use Rattle.std.proofs.Common.{Result, Ok, Err, IfOk}
-use Rattle.std.specs.Str.{IsAscii}
 use Rattle.std.proofs.lemmas.Option.{slice_get_within, get_or_from_slice_get}
 use Rattle.mg_word.specs.Table.{Symbol, symbol_of}
-use Rattle.mg_word.specs.Facts.{is_name_byte, is_digit, suits, is_plain_number}
+use Rattle.mg_word.specs.Facts.{is_name_byte, suits, is_plain_number}
 use Rattle.mg_word.specs.declared.symbol.Kind.{Kind}
 use Rattle.mg_word.specs.declared.symbol.Kind.TheVariants.{Word, Integer, Distinct}
+use Rattle.mg_word.proofs.NameTexts.{number_named}
 use Rattle.proof_tree.specs.DocFaults.{IsSymbolOf}
 use Rattle.proof_tree.specs.Names.{IsOnlyName}
 use Rattle.proof_tree.specs.Terms.{IsRaw, AreRaws}
-use Rattle.proof_tree.proofs.Texts.{both, all_weaker}
-use Rattle.proof_tree.proofs.NameShapes.{plain_digits, no_empty_name}
+use Rattle.mg_word.proofs.Members.{both_true}
+use Rattle.proof_tree.proofs.NameShapes.{no_empty_name}
 use Rattle.proof_tree.specs.declared.terms.Raw.{Raw}
 
 raw_start : (bytes : List ℕ) (raw : Raw) (symbol : Symbol) → IsRaw bytes raw symbol → raw.start ≤ length bytes
 raw_start bytes raw symbol is = omega (arith, no_empty_name (drop raw.start bytes) symbol.kind symbol.name is.rest is.name, length-drop raw.start bytes)
 
+-- each raw symbol begins within the text
 pub raw_within : (bytes : List ℕ) (raws : List Raw) (symbols : List Symbol) (i : ℕ) (d : Raw) → i < length raws → AreRaws bytes raws symbols → (slice_index_or raws i d).start ≤ length bytes
 raw_within bytes [] symbols i d within are = absurd (omega arith)
 raw_within bytes (raw ∷ raws) [] i d within are = elim are [ ]
 raw_within bytes (raw ∷ raws) (symbol ∷ symbols) zero d within are = raw_start bytes raw symbol are.0
 raw_within bytes (raw ∷ raws) (symbol ∷ symbols) (suc i) d within are = raw_within bytes raws symbols i d (omega arith) are.1
 
-digit_is_name : (byte : ℕ) → is_digit byte ≡ true → is_name_byte byte ≡ true
-digit_is_name byte digit = grind (arith, nat_tests)
-
 -- a name is of bytes 32 to 126
 pub name_bytes : (kind : Kind) (name : List ℕ) (arity : ℕ) → suits kind name arity ≡ true → list_all is_name_byte name ≡ true
 name_bytes Word name arity good = good
-name_bytes Integer name arity good = all_weaker is_digit is_name_byte digit_is_name name (plain_digits name (both (is_plain_number name) (nat_eq arity 0) good).0)
-name_bytes Distinct name arity good = (both (list_all is_name_byte name) (nat_eq arity 0) good).0
+name_bytes Integer name arity good = number_named name (both_true (is_plain_number name) (nat_eq arity 0) good).0
+name_bytes Distinct name arity good = (both_true (list_all is_name_byte name) (nat_eq arity 0) good).0
 
 -- the symbol of a raw one is that of its name
 pub symbol_is : (bytes : List ℕ) (raw : Raw) (symbol : Symbol) (kind : Kind) (name behind : List ℕ) (arity : ℕ) → IsOnlyName (drop raw.start bytes) kind name behind → raw.arity ≡ arity → arity < 2 ^ 32 → IsRaw bytes raw symbol
@@ -56,17 +53,10 @@ looked_up table symbol found (Some number) same small there none =
     let is : slice_get table number ≡ Some symbol = there ∙ ap Some (sym same) in
     (record { held = (number, slice_get_within table number symbol is, get_or_from_slice_get table number symbol symbol is); small = small }, is)
 
+-- what a look-up says, for each symbol that the raw one is
 pub number_found : {E : Type 0} (bytes : List ℕ) (raw : Raw) (table : List Symbol) (found : Symbol) (r : Result (Option ℕ) E) → IfOk r (λ id. IfSome id (λ number. slice_get table number ≡ Some found))
     → IfOk r (λ id. IsNone id ↔ (Contains table found → ⊥)) → ((symbol : Symbol) → IsRaw bytes raw symbol → (symbol ≡ found) × (symbol.arity < 2 ^ 32))
     → IfOk r (λ id. (symbol : Symbol) → IsRaw bytes raw symbol → MatchOption id (IsSymbolOf table symbol → ⊥) (λ number. IsSymbolOf table symbol × (slice_get table number ≡ Some symbol)))
 number_found bytes raw table found (Ok id) there none same =
     λ symbol is. looked_up table symbol found id (same symbol is).0 (same symbol is).1 there none.0
 number_found bytes raw table found (Err e) there none same = tt
-
-pub ascii : (name : List ℕ) → list_all is_name_byte name ≡ true → IsAscii name
-ascii [] good i = omega arith
-ascii (byte ∷ name) good zero = below byte (both (is_name_byte byte) (list_all is_name_byte name) good).0
-  where
-    below : (b : ℕ) → is_name_byte b ≡ true → b < 128
-    below b good = grind (arith, nat_tests)
-ascii (byte ∷ name) good (suc i) = ascii name (both (is_name_byte byte) (list_all is_name_byte name) good).1 i

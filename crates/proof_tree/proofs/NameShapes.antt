@@ -8,7 +8,8 @@ use Rattle.mg_word.specs.Spelling.{is_lower_letter, is_upper_letter, is_word_byt
 use Rattle.mg_word.specs.declared.symbol.Kind.{Kind}
 use Rattle.mg_word.specs.declared.symbol.Kind.TheVariants.{Word, Integer, Distinct}
 use Rattle.proof_tree.specs.Names.{IsNameAt, IsOnlyName, IsQuotedAt, IsOnlyQuoted, NoName, ends_name, quoted_kind, begins_digit}
-use Rattle.proof_tree.proofs.Texts.{both, joined, not_true, stops, IsCut, cut_unique, all_weaker, heads, tails}
+use Rattle.mg_word.proofs.Members.{both_true, and_true}
+use Rattle.proof_tree.proofs.Texts.{not_true, stops, IsCut, cut_unique, all_weaker, heads, tails}
 
 pub record IsBare (bytes : List ℕ) (kind : Kind) (name rest : List ℕ) : Type 0 where
   pub kind_is : kind ≡ Word
@@ -34,23 +35,23 @@ shapes bytes Word name rest is = by (is_lower_word name) refl is.text
     by true lower text = inl (inl (record { kind_is = refl; lower = lower; text = text }))
     by false other text =
         inr (inl (record { kind_is = refl; not_bare = λ same. other; good = is.good; text = ap (λ l. 39 ∷ l) (sym (append_assoc (flat_map (escaped 39) name) (39 ∷ []) rest)) ∙ text }))
-shapes bytes Integer name rest is = inl (inr (record { kind_is = refl; plain = (both (is_plain_number name) true is.good).0; text = is.text }))
+shapes bytes Integer name rest is = inl (inr (record { kind_is = refl; plain = (both_true (is_plain_number name) true is.good).0; text = is.text }))
 shapes bytes Distinct name rest is =
-    inr (inr (record { kind_is = refl; not_bare = λ same. cc; good = (both (list_all is_name_byte name) true is.good).0; text = ap (λ l. 34 ∷ l) (sym (append_assoc (flat_map (escaped 34) name) (34 ∷ []) rest)) ∙ is.text }))
+    inr (inr (record { kind_is = refl; not_bare = λ same. cc; good = (both_true (list_all is_name_byte name) true is.good).0; text = ap (λ l. 34 ∷ l) (sym (append_assoc (flat_map (escaped 34) name) (34 ∷ []) rest)) ∙ is.text }))
 
 pub bare_first : (bytes : List ℕ) (kind : Kind) (name rest : List ℕ) → IsBare bytes kind name rest → begins_lower bytes ≡ true
 bare_first bytes kind [] rest is = absurd (true≢false (sym is.lower))
-bare_first bytes kind (first ∷ name) rest is = subst (λ l. begins_lower l ≡ true) is.text (both (is_lower_letter first) (list_all is_word_byte (first ∷ name)) is.lower).0
+bare_first bytes kind (first ∷ name) rest is = subst (λ l. begins_lower l ≡ true) is.text (both_true (is_lower_letter first) (list_all is_word_byte (first ∷ name)) is.lower).0
 
 pub plain_digits : (name : List ℕ) → is_plain_number name ≡ true → list_all is_digit name ≡ true
 plain_digits [] plain = refl
-plain_digits (first ∷ []) plain = joined (is_digit first) true plain refl
-plain_digits (first ∷ second ∷ name) plain = (both _ (list_all is_digit (first ∷ second ∷ name)) plain).1
+plain_digits (first ∷ []) plain = and_true (is_digit first) true plain refl
+plain_digits (first ∷ second ∷ name) plain = (both_true _ (list_all is_digit (first ∷ second ∷ name)) plain).1
 
 pub plain_first : (bytes : List ℕ) (kind : Kind) (name rest : List ℕ) → IsPlain bytes kind name rest → begins_digit bytes ≡ true
 plain_first bytes kind [] rest is = absurd (true≢false (sym is.plain))
 plain_first bytes kind (first ∷ name) rest is =
-    subst (λ l. begins_digit l ≡ true) is.text (both (is_digit first) (list_all is_digit name) (plain_digits (first ∷ name) is.plain)).0
+    subst (λ l. begins_digit l ≡ true) is.text (both_true (is_digit first) (list_all is_digit name) (plain_digits (first ∷ name) is.plain)).0
 
 pub no_both : (bytes : List ℕ) → begins_lower bytes ≡ true → begins_digit bytes ≡ true → ⊥
 no_both [] lower digit = true≢false (sym lower)
@@ -103,7 +104,7 @@ word_front [] [] rest lower cut = absurd (true≢false (sym lower))
 word_front (first ∷ bytes) [] rest lower cut =
     absurd (true≢false (sym (lower_is_word first lower) ∙ not_true (is_word_byte first) (subst (λ l. stops is_word_byte l ≡ true) cut.split cut.ends)))
 word_front bytes (first ∷ front) rest lower cut =
-    joined (is_lower_letter first) (list_all is_word_byte (first ∷ front)) (subst (λ l. begins_lower l ≡ true) (sym cut.split) lower) cut.all
+    and_true (is_lower_letter first) (list_all is_word_byte (first ∷ front)) (subst (λ l. begins_lower l ≡ true) (sym cut.split) lower) cut.all
 
 pub word_taken : (bytes front rest : List ℕ) → begins_lower bytes ≡ true → IsCut is_word_byte bytes front rest → IsOnlyName bytes Word front rest
 word_taken bytes front rest lower cut =
@@ -119,7 +120,7 @@ word_taken bytes front rest lower cut =
   where
     by : (k : Kind) (n r : List ℕ) → IsNameAt bytes k n r → (IsBare bytes k n r ⊎ IsPlain bytes k n r) ⊎ (IsBetween 39 bytes k n r ⊎ IsBetween 34 bytes k n r) → (k ≡ Word) × (n ≡ front) × (r ≡ rest)
     by k n r is (inl (inl so)) =
-        let same = cut_unique is_word_byte n r front rest (both (begins_lower n) (list_all is_word_byte n) so.lower).1 cut.all (ends_stops r is.ends) cut.ends (so.text ∙ sym cut.split) in
+        let same = cut_unique is_word_byte n r front rest (both_true (begins_lower n) (list_all is_word_byte n) so.lower).1 cut.all (ends_stops r is.ends) cut.ends (so.text ∙ sym cut.split) in
         (so.kind_is, same.0, same.1)
     by k n r is (inl (inr so)) = absurd (no_both bytes lower (plain_first bytes k n r so))
     by k n r is (inr (inl so)) = absurd (no_lower_quote 39 bytes [] k n r (inr refl) so lower)
@@ -139,7 +140,7 @@ integer_only bytes front rest digit cut k n r is = by (shapes bytes k n r is)
 
 pub integer_taken : (bytes front rest : List ℕ) → begins_digit bytes ≡ true → IsCut is_digit bytes front rest → is_plain_number front ≡ true → ends_name rest ≡ true → IsOnlyName bytes Integer front rest
 integer_taken bytes front rest digit cut plain ends = record {
-  is = record { good = joined (is_plain_number front) true plain refl; text = cut.split; ends = ends };
+  is = record { good = and_true (is_plain_number front) true plain refl; text = cut.split; ends = ends };
   only = λ k n r is. let all = integer_only bytes front rest digit cut k n r is in (all.0, all.1, all.2);
 }
 
@@ -186,7 +187,7 @@ name_of_quoted : (quote : ℕ) (behind name rest : List ℕ) → (quote ≡ 34) 
 name_of_quoted quote behind name rest (inl is34) so ends other =
     subst (λ q. IsNameAt (q ∷ behind) (quoted_kind q) name rest) (sym is34)
     (record {
-      good = joined (list_all is_name_byte name) true so.good refl;
+      good = and_true (list_all is_name_byte name) true so.good refl;
       text = ap (λ l. 34 ∷ l) (append_assoc (flat_map (escaped 34) name) (34 ∷ []) rest ∙ subst (λ q. flat_map (escaped q) name ++ q ∷ rest ≡ behind) is34 so.text);
       ends = ends;
     })

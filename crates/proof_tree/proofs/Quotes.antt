@@ -6,7 +6,7 @@ use Rattle.std.proofs.lemmas.Bool.Decides.{nat_tests}
 use Rattle.mg_word.specs.Facts.{is_name_byte}
 use Rattle.mg_word.specs.Spelling.{escaped}
 use Rattle.proof_tree.specs.Names.{IsQuotedAt, IsOnlyQuoted, IsByteAt, NoByte, IsUnquoting}
-use Rattle.proof_tree.proofs.Texts.{both, joined}
+use Rattle.mg_word.proofs.Members.{both_true, and_true}
 
 abbrev IsQuote : ℕ → Type 0
 IsQuote quote = (quote ≡ 34) ⊎ (quote ≡ 39)
@@ -46,7 +46,7 @@ unquoting_begins quote bytes have none =
 
 quoted_more : (quote byte : ℕ) (rest after n r : List ℕ) → IsByteAt quote rest byte after → IsQuotedAt quote after n r → IsQuotedAt quote rest (byte ∷ n) r
 quoted_more quote byte rest after n r here is = record {
-  good = joined (is_name_byte byte) (list_all is_name_byte n) here.good is.good;
+  good = and_true (is_name_byte byte) (list_all is_name_byte n) here.good is.good;
   text = append_assoc (escaped quote byte) (flat_map (escaped quote) n) (quote ∷ r) ∙ (ap (λ l. escaped quote byte ++ l) is.text ∙ here.text);
 }
 
@@ -54,7 +54,7 @@ quoted_less : (quote byte : ℕ) (rest after n r : List ℕ) → IsQuote quote �
 quoted_less quote byte rest after [] r known here is = absurd (escaped_begins quote byte after r known (here.text ∙ sym is.text))
 quoted_less quote byte rest after (m ∷ n) r known here is =
     let same = escaped_unique quote m byte (flat_map (escaped quote) n ++ quote ∷ r) after (sym (append_assoc (escaped quote m) (flat_map (escaped quote) n) (quote ∷ r)) ∙ (is.text ∙ sym here.text)) in
-    (n, record { good = (both (is_name_byte m) (list_all is_name_byte n) is.good).1; text = same.1 }, ap (λ x. x ∷ n) same.0)
+    (n, record { good = (both_true (is_name_byte m) (list_all is_name_byte n) is.good).1; text = same.1 }, ap (λ x. x ∷ n) same.0)
 
 pub unquoting_more : (quote byte : ℕ) (bytes rest after have : List ℕ) → IsQuote quote → IsByteAt quote rest byte after → IsUnquoting quote bytes rest have → IsUnquoting quote bytes after (have ++ byte ∷ [])
 unquoting_more quote byte bytes rest after have known here so = record {
@@ -83,4 +83,4 @@ unquoting_stops quote first bytes rest more have begins other none so n r is = l
     by [] here = let same : first ∷ more ≡ quote ∷ r = sym begins ∙ sym here.text in other cc
     by (m ∷ left) here =
         none m (flat_map (escaped quote) left ++ quote ∷ r)
-        (record { good = (both (is_name_byte m) (list_all is_name_byte left) here.good).0; text = sym (append_assoc (escaped quote m) (flat_map (escaped quote) left) (quote ∷ r)) ∙ here.text })
+        (record { good = (both_true (is_name_byte m) (list_all is_name_byte left) here.good).0; text = sym (append_assoc (escaped quote m) (flat_map (escaped quote) left) (quote ∷ r)) ∙ here.text })

@@ -6,7 +6,9 @@ use Rattle.mg_word.specs.declared.symbol.Kind.{Kind}
 use Rattle.mg_word.specs.declared.symbol.Kind.TheVariants.{Word}
 use Rattle.proof_tree.specs.Names.{IsOnlyName, NoName}
 use Rattle.proof_tree.specs.Terms.{ends_term, IsRaw, AreRaws, Level, flat, places, raised, raised_raw, no_raw, IsBehind, IsReached, AtArgument, AfterArgument, NoTerm, IsRawTerm}
-use Rattle.proof_tree.proofs.TermSteps.{more_of, opened, constant_step, open_step, comma_step, close_step, stuck_within, stuck_empty, stuck_name, term_ends, term_goes_on, starts_ahead, step}
+use Rattle.proof_tree.proofs.Reaching.{starts_ahead, step}
+use Rattle.proof_tree.proofs.TermSteps.{more_of, opened, constant_step, open_step, comma_step, close_step}
+use Rattle.proof_tree.proofs.TermEnds.{stuck_within, stuck_empty, stuck_name, term_ends, term_goes_on}
 use Rattle.proof_tree.proofs.RawTerms.{raws_length, raws_push, flat_append, reverse_cons, IsTop, popped}
 use Rattle.proof_tree.specs.declared.terms.Raw.{Raw}
 

@@ -1,16 +1,9 @@
 -- How a text is split where a test first fails, and tests on its first byte.
-use Rattle.std.proofs.Common.{◌≡◌, ℕ, ◌≤◌, ◌<◌, Bool, true, false, true≢false, not, ◌&&◌, cond, List, [], ◌∷◌, ◌++◌, length, take, drop, take_while, slice_index_or, refl, sym, ap, ◌∙◌, subst, length-append, arith}
+use Rattle.std.proofs.Common.{◌≡◌, ℕ, ◌≤◌, ◌<◌, Bool, true, false, true≢false, not, cond, List, [], ◌∷◌, ◌++◌, length, take, drop, take_while, slice_index_or, refl, sym, ap, ◌∙◌, subst, length-append, arith}
 use Rattle.std.specs.List.{list_all}
 use Rattle.std.proofs.lemmas.List.{take_at}
 use Rattle.std.proofs.lemmas.List.Sums.{take_while-cons}
-
-pub both : (a b : Bool) → (a && b) ≡ true → (a ≡ true) × (b ≡ true)
-both true b holds = (refl, holds)
-both false b holds = absurd (true≢false (sym holds))
-
-pub joined : (a b : Bool) → a ≡ true → b ≡ true → (a && b) ≡ true
-joined true b first second = second
-joined false b first second = absurd (true≢false (sym first))
+use Rattle.mg_word.proofs.Members.{both_true, and_true}
 
 pub not_true : (a : Bool) → not a ≡ true → a ≡ false
 not_true true holds = sym holds
@@ -33,7 +26,7 @@ taken_cut p (byte ∷ bytes) = subst (λ front. IsCut p (byte ∷ bytes) front (
   where
     by : (b : Bool) → p byte ≡ b → IsCut p bytes (take_while p bytes) (drop (length (take_while p bytes)) bytes)
         → IsCut p (byte ∷ bytes) (cond b (byte ∷ take_while p bytes) []) (drop (length (cond b (byte ∷ take_while p bytes) [])) (byte ∷ bytes))
-    by true is rest = record { all = joined (p byte) (list_all p (take_while p bytes)) is rest.all; split = ap (λ l. byte ∷ l) rest.split; ends = rest.ends }
+    by true is rest = record { all = and_true (p byte) (list_all p (take_while p bytes)) is rest.all; split = ap (λ l. byte ∷ l) rest.split; ends = rest.ends }
     by false is rest = record { all = refl; split = refl; ends = ap not is }
 
 -- the same by the number of bytes that pass
@@ -55,12 +48,12 @@ pub cut_unique : (p : ℕ → Bool) (f r g s : List ℕ) → list_all p f ≡ tr
 cut_unique p [] r [] s af ag er es same = (refl, same)
 cut_unique p [] [] (y ∷ g) s af ag er es same = cc
 cut_unique p [] (x ∷ r) (y ∷ g) s af ag er es same =
-    absurd (true≢false (sym (ap p (heads x y r (g ++ s) same) ∙ (both (p y) (list_all p g) ag).0) ∙ not_true (p x) er))
+    absurd (true≢false (sym (ap p (heads x y r (g ++ s) same) ∙ (both_true (p y) (list_all p g) ag).0) ∙ not_true (p x) er))
 cut_unique p (x ∷ f) r [] [] af ag er es same = cc
 cut_unique p (x ∷ f) r [] (y ∷ s) af ag er es same =
-    absurd (true≢false (sym (ap p (sym (heads x y (f ++ r) s same)) ∙ (both (p x) (list_all p f) af).0) ∙ not_true (p y) es))
+    absurd (true≢false (sym (ap p (sym (heads x y (f ++ r) s same)) ∙ (both_true (p x) (list_all p f) af).0) ∙ not_true (p y) es))
 cut_unique p (x ∷ f) r (y ∷ g) s af ag er es same =
-    let rest = cut_unique p f r g s (both (p x) (list_all p f) af).1 (both (p y) (list_all p g) ag).1 er es (tails x y (f ++ r) (g ++ s) same) in
+    let rest = cut_unique p f r g s (both_true (p x) (list_all p f) af).1 (both_true (p y) (list_all p g) ag).1 er es (tails x y (f ++ r) (g ++ s) same) in
     let first : x ≡ y = heads x y (f ++ r) (g ++ s) same in
     let fronts : f ≡ g = rest.0 in
     (cc, rest.1)
@@ -78,7 +71,7 @@ cut_whole p bytes whole =
 pub whole_cut : (p : ℕ → Bool) (bytes : List ℕ) → list_all p bytes ≡ true → length (take_while p bytes) ≡ length bytes
 whole_cut p [] all = refl
 whole_cut p (byte ∷ bytes) all =
-    let parts = both (p byte) (list_all p bytes) all in
+    let parts = both_true (p byte) (list_all p bytes) all in
     ap length (take_while-cons p byte bytes) ∙ (ap (λ b. length (cond b (byte ∷ take_while p bytes) [])) parts.0 ∙ rest (whole_cut p bytes parts.1))
   where
     rest : length (take_while p bytes) ≡ length bytes → length (byte ∷ take_while p bytes) ≡ length (byte ∷ bytes)
@@ -96,8 +89,8 @@ no_bytes (byte ∷ bytes) none = absurd (omega arith)
 pub all_weaker : (p q : ℕ → Bool) → ((byte : ℕ) → p byte ≡ true → q byte ≡ true) → (bytes : List ℕ) → list_all p bytes ≡ true → list_all q bytes ≡ true
 all_weaker p q weaker [] all = refl
 all_weaker p q weaker (byte ∷ bytes) all =
-    let parts = both (p byte) (list_all p bytes) all in
-    joined (q byte) (list_all q bytes) (weaker byte parts.0) (all_weaker p q weaker bytes parts.1)
+    let parts = both_true (p byte) (list_all p bytes) all in
+    and_true (q byte) (list_all q bytes) (weaker byte parts.0) (all_weaker p q weaker bytes parts.1)
 
 -- no more bytes pass than there are
 pub cut_short : (p : ℕ → Bool) (bytes : List ℕ) (count : ℕ) → count ≡ length (take_while p bytes) → count ≤ length bytes

@@ -184,6 +184,18 @@ fn texts_have_their_answers(rt: HostRuntime) -> Result<(), NoMemory> {
             Outcome::Fault(3, DocKind::FormNumber),
         ),
         (
+            "mgtp tree 1\nroot\nform 4 [b]\n",
+            Outcome::Fault(3, DocKind::FormNumber),
+        ),
+        (
+            "mgtp tree 1\nroot\nform 4 [b\n",
+            Outcome::Fault(3, DocKind::Syntax),
+        ),
+        (
+            "mgtp tree 1\nform 1 []\n",
+            Outcome::Fault(2, DocKind::Syntax),
+        ),
+        (
             "mgtp tree 1\nroot\nform 3 [a, a]\n",
             Outcome::Fault(3, DocKind::Syntax),
         ),

@@ -8,10 +8,12 @@ use Rattle.mg_word.specs.Words.{lit_instances, complement_of, numbered}
 use Rattle.mg_word.specs.declared.lit.Lit.{Lit}
 use Rattle.mg_word.specs.declared.form.Form.{Form}
 use Rattle.tree_checker.specs.Trees.{Trees, done, tree, Branch, split_by, conclusions_at}
-use Rattle.tree_checker.specs.Closing.{Lemma, IsFine, Close, Closes}
+use Rattle.mg_meaning.specs.Folding.{Pair}
+use Rattle.tree_checker.specs.Closing.{IsFine, Close, Closes}
 use Rattle.tree_checker.specs.declared.doc.TreeLine.{TreeLine}
 use Rattle.tree_checker.specs.declared.doc.TreeLine.TheVariants.{Form as FormLine, Clash, Barred, By}
-use Rattle.tree_checker.proofs.Truths.{both_true, all_push, holds_passes, part_passes}
+use Rattle.tree_checker.proofs.Truths.{all_push, holds_passes, part_passes}
+use Rattle.mg_word.proofs.Members.{both_true}
 
 -- the second branch holds and bars all that the first does
 pub record IsLarger (small large : Branch) : Type 0 where
@@ -56,7 +58,7 @@ AreLarger-split small large (lit ∷ lits) larger = (
       (record { held = larger.held; barred = part-push small.barred large.barred lit larger.barred }),
 )
 
-module _ (forms : List Form) (lemmas more : List Lemma) (kept : (number : ℕ) (lemma : Lemma) → numbered lemmas number ≡ Some lemma → numbered more number ≡ Some lemma) where
+module _ (forms : List Form) (lemmas more : List Pair) (kept : (number : ℕ) (lemma : Pair) → numbered lemmas number ≡ Some lemma → numbered more number ≡ Some lemma) where
   pub IsFine-larger : (small large : Branch) (line : TreeLine) → IsLarger small large → IsFine forms lemmas small line → IsFine forms more large line
   IsFine-larger small large (FormLine number terms) larger (form, at, count, premises) =
       (form, at, count, part_passes (holds large.held) (lit_instances terms form.premises) small.held larger.held premises)

@@ -1,5 +1,4 @@
 pub mod Blocks
-pub mod FormTruth
 pub mod Frames
 pub mod Larger
 pub mod LineFacts

@@ -3,11 +3,12 @@ use Rattle.std.proofs.Common.{◌≡◌, ℕ, ◌<◌, zero, suc, List, [], ◌�
 use Rattle.mg_word.specs.declared.form.Form.{Form}
 use Rattle.tree_checker.specs.declared.doc.TreeLine.{TreeLine}
 use Rattle.tree_checker.specs.Trees.{Trees, done, tree, preorder, Branch, split_by, conclusions_at, AreTrees, branches_at}
-use Rattle.tree_checker.specs.Closing.{Lemma, IsFine, Close}
+use Rattle.mg_meaning.specs.Folding.{Pair}
+use Rattle.tree_checker.specs.Closing.{IsFine, Close}
 use Rattle.tree_checker.proofs.Frames.{length-split_by}
 use Rattle.tree_checker.proofs.Shapes.{beside, preorder-beside, AreTrees-split, Rest, branches_at-split}
 
-module _ (forms : List Form) (lemmas : List Lemma) where
+module _ (forms : List Form) (lemmas : List Pair) where
   -- each line is fine where it stands, and afterwards these branches are left
   abbrev pub Reached : List Branch → List TreeLine → List Branch → Type 0
   Reached branches [] left = branches ≡ left

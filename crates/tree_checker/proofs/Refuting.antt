@@ -13,7 +13,8 @@ use Rattle.mg_word.specs.declared.form.Form.{Form}
 use Rattle.mg_meaning.specs.Truth.{Ground, lit_true, clause_true, makes_true}
 use Rattle.mg_meaning.specs.Refuting.{IsClauseInstance, Refutes}
 use Rattle.tree_checker.specs.Trees.{Trees, done, tree, preorder, Branch, split_by, conclusions_at, empty_branch}
-use Rattle.tree_checker.specs.Closing.{Lemma, IsFine, Close, Closes}
+use Rattle.mg_meaning.specs.Folding.{Pair}
+use Rattle.tree_checker.specs.Closing.{IsFine, Close, Closes}
 use Rattle.tree_checker.specs.Docs.{IsWordOf, LineFits, lemma_of, lemmas_of, branch_of, BlocksClose, IsBlock, IsWellFormed, Accepts, Rejects}
 use Rattle.tree_checker.specs.Instances.{line_instances, tree_instances, block_instances, instances_of}
 use Rattle.tree_checker.specs.declared.doc.Doc.{Doc}
@@ -21,8 +22,10 @@ use Rattle.tree_checker.specs.declared.doc.LemmaBlock.{LemmaBlock}
 use Rattle.tree_checker.specs.declared.doc.Reject.{Reject}
 use Rattle.tree_checker.specs.declared.doc.TreeLine.{TreeLine}
 use Rattle.tree_checker.specs.declared.doc.TreeLine.TheVariants.{Form as FormLine, Clash, Barred, By}
-use Rattle.tree_checker.proofs.Truths.{not_true, all_append, All-front, All-back, All-at}
-use Rattle.tree_checker.proofs.FormTruth.{form_of_clause}
+use Rattle.mg_word.proofs.Members.{never_true}
+use Rattle.mg_meaning.proofs.Lists.{All-at}
+use Rattle.mg_meaning.proofs.FormTruth.{form_of_clause}
+use Rattle.tree_checker.proofs.Truths.{all_append, All-front, All-back}
 use Rattle.tree_checker.proofs.Soundness.{lit_false, Passes, tree_instances-append, Close-none_passes}
 
 all_fit : (table : List Symbol) (terms : List (List ℕ)) → All (IsWordOf table) terms → list_all (fits table) terms ≡ true
@@ -30,7 +33,7 @@ all_fit table [] all = refl
 all_fit table (term ∷ terms) all = rw ((All-head (IsWordOf table) term terms all).0, all_fit table terms (All-tail (IsWordOf table) term terms all)) refl
 
 -- a lemma of the first blocks is one of them
-lemma_at : (blocks : List LemmaBlock) (n number : ℕ) (lemma : Lemma) → numbered (lemmas_of (take n blocks)) number ≡ Some lemma
+lemma_at : (blocks : List LemmaBlock) (n number : ℕ) (lemma : Pair) → numbered (lemmas_of (take n blocks)) number ≡ Some lemma
     → (k : ℕ) × (block : LemmaBlock) × (k < n) × (slice_get blocks k ≡ Some block) × (lemma ≡ lemma_of block)
 lemma_at blocks n zero lemma at = let bad : ⊥ = cc in absurd bad
 lemma_at [] zero (suc k) lemma at = let bad : ⊥ = cc in absurd bad
@@ -63,22 +66,22 @@ module _ (problem : ProblemData) (formed : problem.forms ≡ forms_of problem.cl
   form_holds atoms number terms form at made premises =
       let is = form_of_clause problem.clauses problem.forms formed number form at in
       let holds : clause_true atoms terms is.clause.literals ≡ true =
-      ap (λ found. option_map_or (λ clause. clause_true atoms terms clause.literals) found false) (sym is.clause_is) ∙ made in
-      is.holds atoms terms holds premises
+      ap (λ found. option_map_or (λ clause. clause_true atoms terms clause.literals) found false) (sym is.there) ∙ made in
+      is.says atoms terms holds premises
 
-  line_are_instances : (lemmas : List Lemma) (branch : Branch) (line : TreeLine) → IsFine problem.forms lemmas branch line → LineFits problem.symbols line
+  line_are_instances : (lemmas : List Pair) (branch : Branch) (line : TreeLine) → IsFine problem.forms lemmas branch line → LineFits problem.symbols line
       → All (IsClauseInstance problem) (line_instances problem.forms line)
   line_are_instances lemmas branch (FormLine number terms) (form, at, count, premises) fitting =
       let is = form_of_clause problem.clauses problem.forms formed number form at in
       rw at
       (All-cons (IsClauseInstance problem) (record { clause = form.clause; terms = terms }) []
-      (record { clause = is.clause; is = is.clause_is; variables = count ∙ is.variables; terms = all_fit problem.symbols terms fitting })
+      (record { clause = is.clause; is = is.there; variables = count ∙ is.variables; terms = all_fit problem.symbols terms fitting })
       (All-nil (IsClauseInstance problem)))
   line_are_instances lemmas branch (Clash lit) fine fitting = All-nil (IsClauseInstance problem)
   line_are_instances lemmas branch (Barred lit) fine fitting = All-nil (IsClauseInstance problem)
   line_are_instances lemmas branch (By number) fine fitting = All-nil (IsClauseInstance problem)
 
-  Close-instances : (lemmas : List Lemma) (branches : List Branch) (trees : Trees) → Close problem.forms lemmas branches trees → All (LineFits problem.symbols) (preorder trees)
+  Close-instances : (lemmas : List Pair) (branches : List Branch) (trees : Trees) → Close problem.forms lemmas branches trees → All (LineFits problem.symbols) (preorder trees)
       → All (IsClauseInstance problem) (tree_instances problem.forms (preorder trees))
   Close-instances lemmas [] done closes fitting = All-nil (IsClauseInstance problem)
   Close-instances lemmas [] (tree line children rest) closes fitting = absurd closes
@@ -92,13 +95,13 @@ module _ (problem : ProblemData) (formed : problem.forms ≡ forms_of problem.cl
       (rw (tree_instances-append problem.forms (preorder children) (preorder rest))
       (All-append (IsClauseInstance problem) (tree_instances problem.forms (preorder children)) (tree_instances problem.forms (preorder rest)) below beside))
 
-  Closes-instances : (lemmas : List Lemma) (start : Branch) (lines : List TreeLine) → All (LineFits problem.symbols) lines → Closes problem.forms lemmas start lines
+  Closes-instances : (lemmas : List Pair) (start : Branch) (lines : List TreeLine) → All (LineFits problem.symbols) lines → Closes problem.forms lemmas start lines
       → All (IsClauseInstance problem) (tree_instances problem.forms lines)
   Closes-instances lemmas start lines fitting (trees, same, closes) = rw same at (Close-instances lemmas (start ∷ []) trees closes (rw same fitting))
 
   -- a branch that lines close does not pass, where earlier lemmas hold
-  Closes-none_passes : (lemmas : List Lemma) (atoms : List (List ℕ)) (start : Branch) (lines : List TreeLine)
-      → ((number : ℕ) (lemma : Lemma) → numbered lemmas number ≡ Some lemma → list_all (lit_true atoms) lemma.inside ≡ true → list_all (lit_false atoms) lemma.outside ≡ true → ⊥)
+  Closes-none_passes : (lemmas : List Pair) (atoms : List (List ℕ)) (start : Branch) (lines : List TreeLine)
+      → ((number : ℕ) (lemma : Pair) → numbered lemmas number ≡ Some lemma → list_all (lit_true atoms) lemma.inside ≡ true → list_all (lit_false atoms) lemma.outside ≡ true → ⊥)
       → list_all (makes_true problem.clauses atoms) (tree_instances problem.forms lines) ≡ true → Closes problem.forms lemmas start lines → Passes atoms start → ⊥
   Closes-none_passes lemmas atoms start lines earlier all (trees, same, closes) =
       (Close-none_passes atoms (makes_true problem.clauses atoms) problem.forms lemmas (form_holds atoms) earlier (start ∷ []) trees closes (rw same all)).0
@@ -124,7 +127,7 @@ module _ (problem : ProblemData) (formed : problem.forms ≡ forms_of problem.cl
         let is = All-at (IsBlock problem) doc.lemmas k block well.blocks at in
         Closes-instances (lemmas_of (take k doc.lemmas)) (branch_of block) block.tree is.lines.fitting (accepts.blocks k block (slice_get_within doc.lemmas k block at) at)))
         (Closes-instances (lemmas_of doc.lemmas) empty_branch doc.root well.root.fitting accepts.root);
-    contradictory = λ atoms. not_true (list_all (makes_true problem.clauses atoms) (instances_of problem doc)) (λ all.
+    contradictory = λ atoms. never_true (list_all (makes_true problem.clauses atoms) (instances_of problem doc)) (λ all.
         let both = all_append (makes_true problem.clauses atoms) (block_instances problem.forms doc.lemmas) (tree_instances problem.forms doc.root) all in
         let in_blocks = block_passes (makes_true problem.clauses atoms) problem.forms doc.lemmas both.0 in
         let whole : take (length doc.lemmas) doc.lemmas ≡ doc.lemmas = take_all (length doc.lemmas) doc.lemmas (omega arith) in

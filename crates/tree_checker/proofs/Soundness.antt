@@ -7,11 +7,14 @@ use Rattle.mg_word.specs.declared.lit.Lit.{Lit}
 use Rattle.mg_word.specs.declared.form.Form.{Form}
 use Rattle.mg_meaning.specs.Truth.{Ground, lit_true}
 use Rattle.tree_checker.specs.Trees.{Trees, done, tree, preorder, Branch, split_by, conclusions_under, conclusions_at}
-use Rattle.tree_checker.specs.Closing.{Lemma, IsFine, Close}
+use Rattle.mg_meaning.specs.Folding.{Pair}
+use Rattle.tree_checker.specs.Closing.{IsFine, Close}
 use Rattle.tree_checker.specs.Instances.{line_instances, tree_instances}
 use Rattle.tree_checker.specs.declared.doc.TreeLine.{TreeLine}
 use Rattle.tree_checker.specs.declared.doc.TreeLine.TheVariants.{Form as FormLine, Clash, Barred, By}
-use Rattle.tree_checker.proofs.Truths.{both_true, all_append, all_push, holds_passes, part_passes, complement_true}
+use Rattle.tree_checker.proofs.Truths.{all_append, all_push, holds_passes, part_passes}
+use Rattle.mg_word.proofs.Members.{both_true}
+use Rattle.mg_meaning.proofs.FormTruth.{complement_true}
 
 pub tree_instances-append : (forms : List Form) (front back : List TreeLine) → tree_instances forms (front ++ back) ≡ tree_instances forms front ++ tree_instances forms back
 tree_instances-append forms [] back = refl
@@ -45,10 +48,10 @@ module _ (atoms : List (List ℕ)) where
       by true is some go = none.0 (all_push (lit_true atoms) branch.held first passes.0 is, passes.1)
       by false is some go = go (passes.0, all_push lit_false branch.barred first passes.1 (ap not is)) some
 
-  module _ (passes_on : Ground → Bool) (forms : List Form) (lemmas : List Lemma)
+  module _ (passes_on : Ground → Bool) (forms : List Form) (lemmas : List Pair)
       (forms_hold : (number : ℕ) (terms : List (List ℕ)) (form : Form) → numbered forms number ≡ Some form → passes_on (record { clause = form.clause; terms = terms }) ≡ true
       → list_all (lit_true atoms) (lit_instances terms form.premises) ≡ true → list_any (lit_true atoms) (lit_instances terms form.conclusions) ≡ true)
-      (earlier : (number : ℕ) (lemma : Lemma) → numbered lemmas number ≡ Some lemma → list_all (lit_true atoms) lemma.inside ≡ true → list_all lit_false lemma.outside ≡ true → ⊥) where
+      (earlier : (number : ℕ) (lemma : Pair) → numbered lemmas number ≡ Some lemma → list_all (lit_true atoms) lemma.inside ≡ true → list_all lit_false lemma.outside ≡ true → ⊥) where
     -- a line that keeps the rules has no branch that passes, where none of its children's does
     pub line_closes : (branch : Branch) (line : TreeLine) → IsFine forms lemmas branch line → list_all passes_on (line_instances forms line) ≡ true
         → NonePasses (split_by branch (conclusions_at forms line)) → Passes branch → ⊥

@@ -1,23 +1,13 @@
 -- Truth of lists of literals, and what membership says of it.
-use Rattle.std.proofs.Common.{◌≡◌, ℕ, Bool, true, false, true≢false, not, ◌&&◌, ◌||◌, List, [], ◌∷◌, ◌++◌, length, Some, slice_get, All, refl, sym, ap, subst, ◌∙◌, if◌then◌else◌}
+use Rattle.std.proofs.Common.{◌≡◌, Bool, true, false, true≢false, ◌||◌, List, [], ◌∷◌, ◌++◌, length, All, refl, sym, ap, ◌∙◌}
 use Rattle.std.specs.List.{list_all}
 use Rattle.std.proofs.lemmas.List.Folds.{list_all-append}
 use Rattle.std.proofs.lemmas.List.Elements.{All-take, All-drop}
 use Rattle.std.proofs.lemmas.List.{take_at, drop_at}
-use Rattle.std.proofs.lemmas.Option.{slice_get_within, get_or_from_slice_get}
 use Rattle.mg_word.specs.OrderLaws.{lits_equal}
 use Rattle.mg_word.specs.Sets.{same_lit, holds, is_part}
-use Rattle.mg_word.specs.Words.{complement_of}
 use Rattle.mg_word.specs.declared.lit.Lit.{Lit}
-use Rattle.mg_meaning.specs.Truth.{is_atom_of, lit_true}
-
-pub both_true : (a b : Bool) → (a && b) ≡ true → (a ≡ true) × (b ≡ true)
-both_true true b e = (refl, e)
-both_true false b e = absurd (true≢false (sym e))
-
-pub not_true : (b : Bool) → (b ≡ true → ⊥) → b ≡ false
-not_true true never = absurd (never refl)
-not_true false never = refl
+use Rattle.mg_word.proofs.Members.{both_true}
 
 -- two lists all of whose items pass
 pub all_append : {X : Type 0} (test : X → Bool) (xs ys : List X) → list_all test (xs ++ ys) ≡ true → (list_all test xs ≡ true) × (list_all test ys ≡ true)
@@ -31,9 +21,6 @@ All-front P xs ys all = rw (take_at xs ys (length xs) refl) at (All-take P (leng
 
 pub All-back : {X : Type 0} (P : X → Type 0) (xs ys : List X) → All P (xs ++ ys) → All P ys
 All-back P xs ys all = rw (drop_at xs ys (length xs) refl) at (All-drop P (length xs) (xs ++ ys) all)
-
-pub All-at : {X : Type 0} (P : X → Type 0) (xs : List X) (i : ℕ) (x : X) → All P xs → slice_get xs i ≡ Some x → P x
-All-at P xs i x all at = subst P (get_or_from_slice_get xs i x x at) (all i x (slice_get_within xs i x at))
 
 -- what all literals pass, each of them does
 pub holds_passes : (test : Lit → Bool) (lits : List Lit) (lit : Lit) → list_all test lits ≡ true → holds lits lit ≡ true → test lit ≡ true
@@ -49,12 +36,3 @@ part_passes test [] whole all is = refl
 part_passes test (lit ∷ part) whole all is =
     let there = both_true (holds whole lit) (is_part part whole) is in
     rw (holds_passes test whole lit all there.0, part_passes test part whole all there.1) refl
-
--- of a literal and its complement one is true
-pub complement_true : (atoms : List (List ℕ)) (lit : Lit) → lit_true atoms (complement_of lit) ≡ not (lit_true atoms lit)
-complement_true atoms lit = by lit.negative (is_atom_of atoms lit.word)
-  where
-    by : (negative atom : Bool) → (if not negative then not atom else atom) ≡ not (if negative then not atom else atom)
-    by true true = refl
-    by true false = refl
-    by false atom = refl

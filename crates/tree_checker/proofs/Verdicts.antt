@@ -10,7 +10,8 @@ use Rattle.tree_checker.specs.declared.doc.TreeLine.TheVariants.{Form as FormLin
 use Rattle.tree_checker.specs.declared.doc.Why.{Why}
 use Rattle.tree_checker.specs.declared.doc.Why.TheVariants.{Premise, NoClash, NotBarred, LemmaNumber, LemmaInside, LemmaOutside, Substitution}
 use Rattle.tree_checker.specs.Trees.{Trees, preorder, Branch, AreTrees, IsTree, branches_at, split_by, conclusions_at}
-use Rattle.tree_checker.specs.Closing.{Lemma, IsFine, Breaks, Closes, FirstBreak}
+use Rattle.mg_meaning.specs.Folding.{Pair}
+use Rattle.tree_checker.specs.Closing.{IsFine, Breaks, Closes, FirstBreak}
 use Rattle.tree_checker.specs.declared.line.LineFault.{LineFault}
 use Rattle.tree_checker.specs.declared.line.LineFault.TheVariants.{Broken, NoMemory}
 use Rattle.tree_checker.specs.Docs.{RejectsAt}
@@ -19,7 +20,7 @@ use Rattle.tree_checker.specs.Walks.{next_of, after_next}
 use Rattle.tree_checker.proofs.Lines.{Reached, Reached-push, Reached-rest, Reached-closed, Reached-branch, Reached-fine, Close-reached, AreTrees-closed}
 use Rattle.tree_checker.proofs.Shapes.{some_left, none_left, preorder_unique}
 
-module _ (forms : List Form) (lemmas : List Lemma) where
+module _ (forms : List Form) (lemmas : List Pair) where
   -- a line that is fine breaks no rule
   pub fine_not_broken : (branch : Branch) (line : TreeLine) (why : Why) → IsFine forms lemmas branch line → Breaks forms lemmas branch line why → ⊥
   fine_not_broken branch (FormLine number terms) Substitution fine breaks =

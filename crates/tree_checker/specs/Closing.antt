@@ -2,20 +2,15 @@
 use Rattle.std.specs.Prelude.{◌≡◌, ℕ, ◌<◌, List, [], ◌∷◌, length, Some, None, slice_get, IsTrue}
 use Rattle.mg_word.specs.Words.{lit_instances, complement_of, numbered}
 use Rattle.mg_word.specs.Sets.{holds, is_part}
-use Rattle.mg_word.specs.declared.lit.Lit.{Lit}
 use Rattle.mg_word.specs.declared.form.Form.{Form}
+use Rattle.mg_meaning.specs.Folding.{Pair}
 use Rattle.tree_checker.specs.Trees.{Trees, done, tree, preorder, Branch, split_by, conclusions_at, AreTrees, branches_at}
 use Rattle.tree_checker.specs.declared.doc.TreeLine.{TreeLine}
 use Rattle.tree_checker.specs.declared.doc.TreeLine.TheVariants.{Form as FormLine, Clash, Barred, By}
 use Rattle.tree_checker.specs.declared.doc.Why.{Why}
 use Rattle.tree_checker.specs.declared.doc.Why.TheVariants.{Premise, NoClash, NotBarred, LemmaNumber, LemmaInside, LemmaOutside, Substitution}
 
--- a lemma: nothing has all of the first true and all of the second false
-pub record Lemma : Type 0 where
-  pub inside : List Lit
-  pub outside : List Lit
-
-module _ (forms : List Form) (lemmas : List Lemma) where
+module _ (forms : List Form) (lemmas : List Pair) where
   -- the line keeps the rules where this branch is
   abbrev pub IsFine : Branch → TreeLine → Type 0
   IsFine branch (FormLine number terms) =
@@ -23,7 +18,7 @@ module _ (forms : List Form) (lemmas : List Lemma) where
   IsFine branch (Clash lit) = IsTrue (holds branch.held lit) × IsTrue (holds branch.held (complement_of lit))
   IsFine branch (Barred lit) = IsTrue (holds branch.held lit) × IsTrue (holds branch.barred lit)
   IsFine branch (By number) =
-      (lemma : Lemma) × (numbered lemmas number ≡ Some lemma) × IsTrue (is_part lemma.inside branch.held) × IsTrue (is_part lemma.outside branch.barred)
+      (lemma : Pair) × (numbered lemmas number ≡ Some lemma) × IsTrue (is_part lemma.inside branch.held) × IsTrue (is_part lemma.outside branch.barred)
 
   -- the first rule that the line breaks where this branch is
   abbrev pub Breaks : Branch → TreeLine → Why → Type 0
@@ -36,9 +31,9 @@ module _ (forms : List Form) (lemmas : List Lemma) where
   Breaks branch (Barred lit) NotBarred = IsTrue (holds branch.held lit) × IsTrue (holds branch.barred lit) → ⊥
   Breaks branch (Barred lit) why = ⊥
   Breaks branch (By number) LemmaNumber = numbered lemmas number ≡ None
-  Breaks branch (By number) LemmaInside = (lemma : Lemma) × (numbered lemmas number ≡ Some lemma) × (IsTrue (is_part lemma.inside branch.held) → ⊥)
+  Breaks branch (By number) LemmaInside = (lemma : Pair) × (numbered lemmas number ≡ Some lemma) × (IsTrue (is_part lemma.inside branch.held) → ⊥)
   Breaks branch (By number) LemmaOutside =
-      (lemma : Lemma) × (numbered lemmas number ≡ Some lemma) × IsTrue (is_part lemma.inside branch.held) × (IsTrue (is_part lemma.outside branch.barred) → ⊥)
+      (lemma : Pair) × (numbered lemmas number ≡ Some lemma) × IsTrue (is_part lemma.inside branch.held) × (IsTrue (is_part lemma.outside branch.barred) → ⊥)
   Breaks branch (By number) why = ⊥
 
   -- each tree closes its branch: its top line keeps the rules, and its children close the branches that the line splits it into

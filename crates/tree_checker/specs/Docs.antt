@@ -6,7 +6,8 @@ use Rattle.mg_word.specs.Facts.{ProblemData}
 use Rattle.mg_word.specs.declared.lit.Lit.{Lit}
 use Rattle.mg_word.specs.declared.form.Form.{Form}
 use Rattle.tree_checker.specs.Trees.{Branch, IsTree, empty_branch}
-use Rattle.tree_checker.specs.Closing.{Lemma, Closes, FirstBreak}
+use Rattle.mg_meaning.specs.Folding.{Pair}
+use Rattle.tree_checker.specs.Closing.{Closes, FirstBreak}
 use Rattle.tree_checker.specs.declared.doc.Doc.{Doc}
 use Rattle.tree_checker.specs.declared.doc.LemmaBlock.{LemmaBlock}
 use Rattle.tree_checker.specs.declared.doc.TreeLine.{TreeLine}
@@ -15,11 +16,11 @@ use Rattle.tree_checker.specs.declared.doc.Reject.{Reject}
 use Rattle.tree_checker.specs.declared.doc.Reject.TheVariants.{Line, NoMemory}
 
 -- the lemma that a block states
-abbrev pub lemma_of : LemmaBlock → Lemma
+abbrev pub lemma_of : LemmaBlock → Pair
 lemma_of block = record { inside = block.inside; outside = block.outside }
 
 -- the lemmas of blocks, which their numbers name
-abbrev pub lemmas_of : List LemmaBlock → List Lemma
+abbrev pub lemmas_of : List LemmaBlock → List Pair
 lemmas_of blocks = map lemma_of blocks
 
 -- what a block's tree closes: its inside held and its outside barred
@@ -89,7 +90,7 @@ pub record Accepts (problem : ProblemData) (doc : Doc) : Type 0 where
   pub root : Closes problem.forms (lemmas_of doc.lemmas) empty_branch doc.root
 
 -- of a tree's lines, counted from that number, the first that breaks a rule is named
-abbrev pub RejectsAt : List Form → List Lemma → Branch → List TreeLine → ℕ → Reject → Type 0
+abbrev pub RejectsAt : List Form → List Pair → Branch → List TreeLine → ℕ → Reject → Type 0
 RejectsAt forms lemmas start lines first (Line line why) = (at : ℕ) × (line ≡ first + at) × FirstBreak forms lemmas start lines at why
 RejectsAt forms lemmas start lines first NoMemory = Unit {0}
 

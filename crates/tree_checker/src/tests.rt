@@ -2,7 +2,7 @@
 
 ghost use Rattle.std.specs.Prelude.{◌≡◌, ◌≤◌, [], ◌∷◌, false, true, IfOk, IsTrue, length, if◌then◌else◌};
 ghost use Rattle.tree_checker.specs.Trees.{conclusions_at};
-ghost use Rattle.tree_checker.specs.Docs.{AreLines, LineFits, IsKnown};
+ghost use Rattle.tree_checker.specs.Docs.{AreLines, AreLitsOf, IsBlock, LineFits, IsKnown};
 ghost use Rattle.tree_checker.specs.Samples.{symbol_p, literal_p, clause_p, form_p, sample};
 
 use crate::{Doc, LemmaBlock, Reject, TreeLine, Why, check_doc};
@@ -202,29 +202,168 @@ fn answer(alloc: Global, root: Vec<TreeLine>) -> Result<Result<(), Reject>, NoMe
     Ok(check_doc(alloc, &problem, &doc))
 }
 
-// The answer for a document with a lemma of two empty sets.
-fn answer_with_lemma(
+fn are_p(lits: &[Lit]) -> bool
+    ensures { IsTrue result → AreLitsOf sample.symbols lits.now }
+{
+    lits.iter().all(|lit| is_p(&lit.word))
+}
+
+// Whether the block is one over the words of the problem, with few lines.
+fn is_block(block: &LemmaBlock) -> bool
+    ensures block { IsTrue result → IsBlock sample block.now }
+    ensures few { IsTrue result → length block.now.tree ≤ 1000000 }
+{
+    are_p(block.inside.as_slice())
+        && are_p(block.outside.as_slice())
+        && is_tree(block.tree.as_slice())
+}
+
+// The answer for a document with these two lemmas.
+fn answer_with_lemmas(
     alloc: Global,
-    lemma: Vec<TreeLine>,
+    first: LemmaBlock,
+    second: LemmaBlock,
     root: Vec<TreeLine>,
 ) -> Result<Result<(), Reject>, NoMemory>
-    requires lemma { AreLines sample lemma.items }
-    requires short { length lemma.items ≤ 1000000 }
+    requires first { IsBlock sample first }
+    requires first_short { length first.tree ≤ 1000000 }
+    requires second { IsBlock sample second }
+    requires second_short { length second.tree ≤ 1000000 }
     requires lines { AreLines sample root.items }
     requires few { length root.items ≤ 1000000 }
 {
     let problem = problem(alloc)?;
     let mut lemmas = Items::empty(alloc);
-    lemmas.push(LemmaBlock {
-        inside: LitSet::empty(alloc),
-        outside: LitSet::empty(alloc),
-        tree: Items::new(lemma),
-    })?;
+    lemmas.push(first)?;
+    lemmas.push(second)?;
     let doc = Doc {
         lemmas,
         root: Items::new(root),
     };
     Ok(check_doc(alloc, &problem, &doc))
+}
+
+fn not_p(alloc: Global) -> Result<Lit, NoMemory> {
+    Ok(Lit {
+        negative: true,
+        word: word_p(alloc)?,
+    })
+}
+
+// The answer for the document, where it is one.
+fn judged(
+    alloc: Global,
+    first: LemmaBlock,
+    second: LemmaBlock,
+    root: Vec<TreeLine>,
+) -> Result<Option<Result<(), Reject>>, NoMemory> {
+    if !is_block(&first) || !is_block(&second) || !is_tree(&root) {
+        return Ok(None);
+    }
+    let answer = answer_with_lemmas(alloc, first, second, root)?;
+    Ok(Some(answer))
+}
+
+// What a set of a lemma has.
+#[derive(Clone, Copy, Debug)]
+enum Has {
+    Nothing,
+    P,
+    NotP,
+}
+
+fn set(alloc: Global, has: Has) -> Result<LitSet, NoMemory> {
+    let mut lits = Vec::new(alloc);
+    match has {
+        Has::Nothing => {}
+        Has::P => lits.push(p(alloc)?)?,
+        Has::NotP => lits.push(not_p(alloc)?)?,
+    }
+    LitSet::from_lits(lits)
+}
+
+fn block(
+    alloc: Global,
+    inside: Has,
+    outside: Has,
+    tree: Vec<TreeLine>,
+) -> Result<LemmaBlock, NoMemory> {
+    let inside = set(alloc, inside)?;
+    let outside = set(alloc, outside)?;
+    Ok(LemmaBlock {
+        inside,
+        outside,
+        tree: Items::new(tree),
+    })
+}
+
+// Form 1 makes `p`, and form 2 rejects it.
+fn both_forms(alloc: Global) -> Result<Vec<TreeLine>, NoMemory> {
+    let mut lines = Vec::new(alloc);
+    lines.push(form(alloc, 1))?;
+    lines.push(form(alloc, 2))?;
+    Ok(lines)
+}
+
+// With `p` inside, which form 2 rejects.
+fn inside_block(alloc: Global) -> Result<LemmaBlock, NoMemory> {
+    let mut lines = Vec::new(alloc);
+    lines.push(form(alloc, 2))?;
+    block(alloc, Has::P, Has::Nothing, lines)
+}
+
+// With `p` outside: form 1 makes it, and it is barred.
+fn outside_block(alloc: Global) -> Result<LemmaBlock, NoMemory> {
+    let mut lines = Vec::new(alloc);
+    lines.push(form(alloc, 1))?;
+    lines.push(TreeLine::Barred(p(alloc)?))?;
+    block(alloc, Has::Nothing, Has::P, lines)
+}
+
+// These sets, closed by a lemma.
+fn by_block(alloc: Global, inside: Has, outside: Has, number: u32) -> Result<LemmaBlock, NoMemory> {
+    let mut lines = Vec::new(alloc);
+    lines.push(TreeLine::By(number))?;
+    block(alloc, inside, outside, lines)
+}
+
+// A lemma of two lines, one that is closed by this number, and a root that ends by the second or by form 2.
+fn with_numbers(
+    alloc: Global,
+    number: u32,
+    ends_by: bool,
+) -> Result<Option<Result<(), Reject>>, NoMemory> {
+    let lines = both_forms(alloc)?;
+    let first = block(alloc, Has::Nothing, Has::Nothing, lines)?;
+    let second = by_block(alloc, Has::Nothing, Has::Nothing, number)?;
+    let mut root = Vec::new(alloc);
+    root.push(if ends_by {
+        TreeLine::By(2)
+    } else {
+        form(alloc, 2)
+    })?;
+    judged(alloc, first, second, root)
+}
+
+// A lemma with `p` in one of its sets, and one with these sets that is closed by it.
+fn with_sets(
+    alloc: Global,
+    is_inside: bool,
+    inside: Has,
+    outside: Has,
+) -> Result<Option<Result<(), Reject>>, NoMemory> {
+    let first = if is_inside {
+        inside_block(alloc)?
+    } else {
+        outside_block(alloc)?
+    };
+    let second = by_block(alloc, inside, outside, 1)?;
+    let root = both_forms(alloc)?;
+    judged(alloc, first, second, root)
+}
+
+fn at_line(line: u64, why: Why) -> Result<(), Reject> {
+    Err(Reject::Line { line, why })
 }
 
 // A line 3 that breaks the rule.
@@ -259,37 +398,37 @@ fn names_the_first_broken_rule(rt: HostRuntime) -> Result<(), Fail> {
     Ok(())
 }
 
-// The header is line 1, the lemma's tree lines 5 and on, and the root's begins one line after the root's own.
+// The header is line 1; a lemma's tree begins at its fourth line, and the root's one line after the root's own.
 #[test]
 fn counts_the_lines_of_lemmas(rt: HostRuntime) -> Result<(), Fail> {
     let alloc = rt.alloc();
-    let rows = vec![in alloc;
-        (
-            vec![in alloc; form(alloc, 1), form(alloc, 2)]?,
-            TreeLine::By(1),
-            Ok(())
-        ),
-        (
-            vec![in alloc; form(alloc, 1), TreeLine::By(1)]?,
-            TreeLine::By(1),
-            Err(Reject::Line {
-                line: 6,
-                why: Why::LemmaNumber
-            })
-        ),
-        (
-            vec![in alloc; form(alloc, 1), form(alloc, 2)]?,
-            form(alloc, 2),
-            Err(Reject::Line {
-                line: 8,
-                why: Why::Premise
-            })
-        ),
-    ]?;
-    for (lemma, line, expected) in rows {
-        let root = vec![in alloc; line]?;
-        assert!(rt; is_tree(&lemma) && is_tree(&root));
-        assert_eq!(rt; answer_with_lemma(alloc, lemma, root)?, expected);
+    let rows = [
+        (1, true, Ok(())),
+        (2, true, at_line(10, Why::LemmaNumber)),
+        (1, false, at_line(12, Why::Premise)),
+    ];
+    for (number, ends_by, expected) in rows {
+        assert_eq!(rt; with_numbers(alloc, number, ends_by)?, Some(expected));
+    }
+    Ok(())
+}
+
+// A lemma applies where its inside is held and its outside is barred.
+#[test]
+fn looks_at_the_sets_of_lemmas(rt: HostRuntime) -> Result<(), Fail> {
+    let alloc = rt.alloc();
+    let rows = [
+        (true, Has::P, Has::Nothing, Ok(())),
+        (true, Has::NotP, Has::Nothing, at_line(9, Why::LemmaInside)),
+        (true, Has::Nothing, Has::P, at_line(9, Why::LemmaInside)),
+        (false, Has::Nothing, Has::P, Ok(())),
+        (false, Has::P, Has::Nothing, at_line(10, Why::LemmaOutside)),
+    ];
+    for (is_inside, inside, outside, expected) in rows {
+        assert_eq!(rt;
+            with_sets(alloc, is_inside, inside, outside)?,
+            Some(expected)
+        );
     }
     Ok(())
 }

@@ -1,14 +1,14 @@
 use Rattle.std.proofs.Common.{◌≡◌, sym, ap, ◌∙◌, arith}
-use Rattle.std.proofs.lemmas.Str.{IsUtf8-from_ascii}
 use Rattle.mg_word.specs.Table.{symbol_of}
-use Rattle.proof_tree.proofs.LookUps.{number_found, symbol_is, name_bytes, ascii}
+use Rattle.mg_word.proofs.NameTexts.{name_utf8}
+use Rattle.proof_tree.proofs.LookUps.{number_found, symbol_is, name_bytes}
 use Rattle.proof_tree.proofs.terms.number_of.Goals as goal
 
 pub returns-in_default-from_utf8 : goal.returns-in_default-from_utf8
 returns-in_default-from_utf8 c =
     let found = rw c.in-Some.is at c.in_ok-kind.ensures in
     let names = name_bytes c.in-Some.kind c.take_name.new.name.items 0 found.is.good in
-    absurd (c.in_default-from_utf8.ensures.cases.0 (rw c.deref.ensures.value (IsUtf8-from_ascii c.take_name.new.name.items (ascii c.take_name.new.name.items names))))
+    absurd (c.in_default-from_utf8.ensures.cases.0 (rw c.deref.ensures.value (name_utf8 c.take_name.new.name.items names)))
 
 pub returns : goal.returns
 returns c =

@@ -3,7 +3,7 @@ use Rattle.std.proofs.lemmas.List.{take_all}
 use Rattle.std.proofs.lemmas.Option.{slice_get_read}
 use Rattle.mg_word.specs.Forms.{forms_of}
 use Rattle.tree_checker.specs.Docs.{IsBlock, lines_before}
-use Rattle.tree_checker.proofs.Truths.{All-at}
+use Rattle.mg_meaning.proofs.Lists.{All-at}
 use Rattle.tree_checker.proofs.Blocks.{block_line, block_room, BlocksClose-more, verdict_at_end, exact_at_end}
 use Rattle.tree_checker.proofs.Refuting.{refuted_at_end}
 use Rattle.tree_checker.proofs.check.check_doc.Goals as goal
