@@ -20,6 +20,7 @@ AcceptsFrom None tokens = ⊥
 AcceptsFrom (Some p) [] = is_end p ≡ true
 AcceptsFrom (Some p) (s ∷ tokens) = AcceptsFrom (step p s) tokens
 
+-- the same of a place that is there
 abbrev pub Accepts : Place → List Shape → Type 0
 Accepts p tokens = AcceptsFrom (Some p) tokens
 
@@ -29,6 +30,7 @@ accepts-run None tokens a = absurd a
 accepts-run (Some p) [] a = (p, refl, a)
 accepts-run (Some p) (s ∷ tokens) a = accepts-run (step p s) tokens a
 
+-- a run that ends where a file may end is accepting
 pub run-accepts : (o : Option Place) (tokens : List Shape) (p : Place) → run_from o tokens ≡ Some p → is_end p ≡ true → AcceptsFrom o tokens
 run-accepts None tokens p e h = cc
 run-accepts (Some q) [] p e h = let same : q ≡ p = cc in subst (λ x. is_end x ≡ true) (sym same) h
@@ -39,6 +41,7 @@ pub chosen : (P : Option Place → Type 0) (test : Bool) (p : Place) (o : Option
 chosen P true p o h = inl (refl, h)
 chosen P false p o h = inr (refl, h)
 
+-- of one alternative and none, the one was taken where none is ruled out
 pub chosen-when : (P : Option Place → Type 0) → (P None → ⊥) → (test : Bool) (p : Place) → P (when test p) → (test ≡ true) × P (Some p)
 chosen-when P none true p h = (refl, h)
 chosen-when P none false p h = absurd (none h)
@@ -48,13 +51,15 @@ pub passed : (test : Bool) (p : Place) (o : Option Place) (tokens : List Shape) 
 passed true p o tokens h a = absurd (h refl a)
 passed false p o tokens h a = a
 
--- what each test says
+-- bytes that pass the test of equal bytes are equal
 pub equal_bytes : (xs ys : List ℕ) → bytes_eq xs ys ≡ true → xs ≡ ys
 equal_bytes xs ys h = (bytes_eq-Decides xs ys).0 h
 
+-- and numbers that pass the test are equal
 pub equal_numbers : (m n : ℕ) → (m == n) ≡ true → m ≡ n
 equal_numbers m n h = grind (arith, nat_tests)
 
+-- a token that passes the test of a mark is this mark
 pub mark_is : (byte : ℕ) (s : Shape) → is_mark byte s ≡ true → s ≡ Punct byte
 mark_is byte (Punct b) h = ap Punct (equal_numbers b byte h)
 mark_is byte (Lower text) h = cc
@@ -65,6 +70,7 @@ mark_is byte (Dollar text) h = cc
 mark_is byte (Number text plain) h = cc
 mark_is byte NotEqual h = cc
 
+-- a token that passes the test of a keyword is this lower-case word
 pub keyword_is : (word : List ℕ) (s : Shape) → is_keyword word s ≡ true → s ≡ Lower word
 keyword_is word (Lower text) h = ap Lower (equal_bytes text word h)
 keyword_is word (Upper text) h = cc
@@ -75,6 +81,7 @@ keyword_is word (Number text plain) h = cc
 keyword_is word NotEqual h = cc
 keyword_is word (Punct b) h = cc
 
+-- a token that passes the test of a defined word is this word with a dollar sign
 pub defined_is : (word : List ℕ) (s : Shape) → is_defined word s ≡ true → s ≡ Dollar word
 defined_is word (Dollar text) h = ap Dollar (equal_bytes text word h)
 defined_is word (Lower text) h = cc
@@ -85,6 +92,7 @@ defined_is word (Number text plain) h = cc
 defined_is word NotEqual h = cc
 defined_is word (Punct b) h = cc
 
+-- a token that passes the test of lower-case words is one
 pub lower_is : (s : Shape) → is_lower s ≡ true → (text : List ℕ) × (s ≡ Lower text)
 lower_is (Lower text) h = (text, refl)
 lower_is (Upper text) h = cc
@@ -95,6 +103,7 @@ lower_is (Number text plain) h = cc
 lower_is NotEqual h = cc
 lower_is (Punct b) h = cc
 
+-- a token that passes the test of words is the token of a word
 pub word_is : (s : Shape) → is_word s ≡ true → (word : Word) × (s ≡ word_token word)
 word_is (Lower text) h = (bare_word text, refl)
 word_is (Quoted text) h = (quoted_word text, refl)
@@ -105,6 +114,7 @@ word_is (Number text plain) h = absurd cc
 word_is NotEqual h = absurd cc
 word_is (Punct b) h = absurd cc
 
+-- a token that passes the test of names is the token of a name
 pub name_is : (s : Shape) → is_name s ≡ true → (name : Name) × (s ≡ name_token name)
 name_is (Lower text) h = (word_name (bare_word text), refl)
 name_is (Quoted text) h = (word_name (quoted_word text), refl)
@@ -115,6 +125,7 @@ name_is (Dollar text) h = absurd cc
 name_is NotEqual h = absurd cc
 name_is (Punct b) h = absurd cc
 
+-- a token that passes the test of simple terms spells a term alone
 pub simple_is : (s : Shape) → is_simple_term s ≡ true → (term : Term) × (spell_term term ≡ s ∷ [])
 simple_is (Upper text) h = (variable text, refl)
 simple_is (Distinct text) h = (distinct text, refl)
@@ -125,10 +136,12 @@ simple_is (Dollar text) h = absurd cc
 simple_is NotEqual h = absurd cc
 simple_is (Punct b) h = absurd cc
 
+-- what is not is false
 pub negated : (b : Bool) → not b ≡ true → b ≡ false
 negated true h = cc
 negated false h = refl
 
+-- a token that passes the test of file names is the token of a file name
 pub file_name_is : (s : Shape) → is_file_name s ≡ true → (file : FileName) × (s ≡ file_token file)
 file_name_is (Lower text) h = (bare_file text, refl)
 file_name_is (Quoted text) h = (quoted_file text (negated (bytes_eq text (codes "''")) h), refl)

@@ -8,19 +8,12 @@ use Rattle.cnf_grammar.specs.Shapes.{Shape, Lower, Upper, Quoted, Distinct, Doll
 use Rattle.cnf_grammar.specs.Conclude.{gives_conclusions, spell_more_numbers, spell_numbers, item_end, has_word_at, may_follow, are_conclusions_above, values, IsConcludeItem, BeginsConcludeItem}
 use Rattle.cnf_grammar.specs.declared.item.ItemPlace.{ItemPlace}
 use Rattle.cnf_grammar.specs.Items.{item_start, word_read, item_open, list_open, number_read, number_start, list_closed, item_closed, other_item, names_above, at_item, number_at, item_step, item_run}
+use Rattle.mg_word.proofs.Members.{both_true, and_true}
 use Rattle.cnf_grammar.proofs.Accepting.{mark_is, keyword_is}
 
 abbrev is_closed : ItemPlace → Bool
 is_closed item_closed = true
 is_closed _ = false
-
-both_true : (a b : Bool) → (a && b) ≡ true → (a ≡ true) × (b ≡ true)
-both_true true b h = (refl, h)
-both_true false b h = cc
-
-and_true : (a b : Bool) → a ≡ true → b ≡ true → (a && b) ≡ true
-and_true true b h k = k
-and_true false b h k = cc
 
 pick : (P : Option ItemPlace → Type 0) (test : Bool) (p : ItemPlace) (o : Option ItemPlace) → P (at_item test p o) → ((test ≡ true) × P (Some p)) ⊎ ((test ≡ false) × P o)
 pick P true p o h = inl (refl, h)

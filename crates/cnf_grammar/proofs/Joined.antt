@@ -11,12 +11,15 @@ use Rattle.cnf_grammar.proofs.AcceptedFiles.{accepts-file}
 use Rattle.cnf_grammar.proofs.SpelledFiles.{rest_accepted}
 use Rattle.cnf_grammar.proofs.Completed.{completed}
 
+-- the tokens that trees spell lead from the start to an end
 pub every_file : (file : List Statement) → LeadsToEnd start (spell file)
 every_file file = accepts-run (Some start) (spell file) (accepts-file file 0 0 [])
 
+-- tokens that lead from the start to an end, some trees spell
 pub only_files : (tokens : List Shape) → LeadsToEnd start tokens → IsFile tokens
 only_files tokens h = rest_accepted (Some start) tokens (run-accepts (Some start) tokens h.0 h.1 h.2)
 
+-- from each place some tokens lead to an end
 pub every_place : (p : Place) → (tokens : List Shape) × LeadsToEnd p tokens
 every_place p = let c = completed p in (c.0, accepts-run (Some p) c.0 c.1)
 
@@ -40,16 +43,19 @@ front_runs before more q e = some_before (run start before) refl (sym (run-appen
     some_before None same h = absurd (none_goes_on more q (subst (λ x. run_from x more ≡ Some q) same h))
     some_before (Some p) same h = (p, same)
 
+-- the front of a file leads to some place
 pub front_is_some : (tokens : List Shape) → IsFront tokens → (p : Place) × (run start tokens ≡ Some p)
 front_is_some tokens front =
     let file = every_file front.1.0 in
     front_runs tokens front.0 file.0 (subst (λ u. run start u ≡ Some file.0) front.1.1 file.1)
 
+-- tokens that lead to some place are the front of a file
 pub some_is_front : (tokens : List Shape) (p : Place) → run start tokens ≡ Some p → IsFront tokens
 some_is_front tokens p e =
     let rest = every_place p in
     (rest.0, only_files (tokens ++ rest.0) (rest.1.0, run-append (Some start) tokens rest.0 ∙ (ap (λ o. run_from o rest.0) e ∙ rest.1.1), rest.1.2))
 
+-- one more token is one more step
 pub step-after : (tokens : List Shape) (p : Place) (s : Shape) → run start tokens ≡ Some p → run start (tokens ++ s ∷ []) ≡ run_from (step p s) []
 step-after tokens p s e = run-append (Some start) tokens (s ∷ []) ∙ ap (λ o. run_from o (s ∷ [])) e
 
@@ -69,6 +75,7 @@ goes_on tokens p s e = (
     no_place None h = refl
     no_place (Some q) h = absurd (h q refl)
 
+-- where tokens lead, a file may end exactly where they are one
 pub may_end : (tokens : List Shape) (p : Place) → run start tokens ≡ Some p → (is_end p ≡ true) ↔ IsFile tokens
 may_end tokens p e = (
   λ end. only_files tokens (p, e, end),
@@ -82,6 +89,7 @@ pub is_some_value : (o : Option Place) → IsSome o → (p : Place) × (o ≡ So
 is_some_value None h = cc
 is_some_value (Some p) h = (p, refl)
 
+-- tokens lead to some place exactly where they are the front of a file
 pub front_is : (tokens : List Shape) → IsSome (run start tokens) ↔ IsFront tokens
 front_is tokens = (
   λ h. let p = is_some_value (run start tokens) h in some_is_front tokens p.0 p.1,
@@ -95,6 +103,7 @@ is_false : (b : Bool) → (b ≡ true → ⊥) → b ≡ false
 is_false true h = absurd (h refl)
 is_false false h = refl
 
+-- the table stops at a token exactly where it is the first that cannot go on
 pub stops_at : (tokens : List Shape) (s : Shape) → StopsAt tokens s ↔ IsFirstFault tokens s
 stops_at tokens s = (
   λ h. ((front_is tokens).0 h.0, λ front. not_both (is_some (run start (tokens ++ s ∷ []))) ((front_is (tokens ++ s ∷ [])).1 front) h.1),

@@ -1,4 +1,4 @@
-mod Accepting
+pub mod Accepting
 mod Rests
 mod Accepted
 mod Notes
@@ -7,9 +7,10 @@ mod AcceptedFiles
 mod Spelled
 mod SpelledFiles
 mod Completed
-mod Joined
+pub mod Joined
 mod Examples
 mod Readings
+mod Unquoted
 mod OneTerm
 mod OneFile
 mod Variables
@@ -17,5 +18,8 @@ mod Collected
 mod Drafted
 mod ItemLaws
 mod ItemNumbers
-mod Whole
+pub mod Whole
 mod Counting
+pub mod Once
+pub mod Sound
+pub mod Clean

@@ -65,7 +65,7 @@ index_final final v x h = sym (ap (λ u. index_of u x) h.1 ∙ index_kept (with_
 abbrev unseen : List (List ℕ) → List (List ℕ) → List (List ℕ)
 unseen v xs = filter (λ x. not (has_text v x)) xs
 
-abbrev others : List ℕ → List (List ℕ) → List (List ℕ)
+abbrev pub others : List ℕ → List (List ℕ) → List (List ℕ)
 others t xs = filter (λ x. not (bytes_eq t x)) xs
 
 -- where t is there, t need not be left out

@@ -158,5 +158,6 @@ statements_read (statement ∷ more) before level depth brackets =
     (λ l d b. subst (λ u. Leads (gathered u) (gathered (before ++ meaning statement ∷ [])) (Some (place Statement l d b)) (spell more)) (append_assoc before (meaning statement ∷ []) (map meaning more)) (statements_read more (before ++ meaning statement ∷ []) l d b))
     level depth brackets
 
+-- the tokens of a file leave what its statements say
 pub file_gathered : (file : List trees.Statement) → gather_from (Some (place Statement 0 0 [])) (gathered []) (spell file) ≡ gathered (map meaning file)
 file_gathered file = statements_read file [] 0 0 []

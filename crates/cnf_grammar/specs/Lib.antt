@@ -11,3 +11,4 @@ pub mod Draft
 pub mod Items
 pub mod Gathering
 pub mod Counters
+pub mod Soundness

@@ -1,14 +1,18 @@
-//! The laws that join the table to the grammar. The functions do nothing: each is called for what it ensures.
+//! The laws of the grammar, and those that join the table to it. The functions do nothing: each is called for what it ensures.
 
-ghost use Rattle.std.specs.Prelude.{◌≡◌, ◌+◌, ◌<◌, ◌^◌, Bool, true, false, length, map, List, [], ◌∷◌, ◌++◌, Some, None, IsSome, ◌↔◌};
+ghost use Rattle.std.specs.Prelude.{◌≡◌, ◌+◌, ◌<◌, ◌^◌, ℕ, Bool, true, false, length, map, List, [], ◌∷◌, ◌++◌, Some, None, IsSome, IsTrue, ◌↔◌};
+ghost use Rattle.std.specs.List.{list_all};
+ghost use Rattle.mg_word.specs.Facts.{is_name_byte};
+ghost use Rattle.tptp_lexer.specs.Forms.{Item, bytes_of, meant_by, AreItems};
 ghost use Rattle.cnf_grammar.specs.declared.place.Place.{Place};
 ghost use Rattle.cnf_grammar.specs.Shapes.{Shape};
-ghost use Rattle.cnf_grammar.specs.Trees.{Statement};
-ghost use Rattle.cnf_grammar.specs.Spelling.{spell, IsFile, IsFront};
+ghost use Rattle.cnf_grammar.specs.Trees.{Name, FileName, Formula, Annotations, Selection, Statement, clause, include};
+ghost use Rattle.cnf_grammar.specs.Spelling.{spell_statement, spell, IsFile, IsFront};
 ghost use Rattle.cnf_grammar.specs.Table.{step, run, start, is_end};
 ghost use Rattle.cnf_grammar.specs.Conclude.{gives_conclusions, IsConcludeItem, BeginsConcludeItem};
 ghost use Rattle.cnf_grammar.specs.Items.{item_start, item_closed, item_run};
-ghost use Rattle.cnf_grammar.specs.Meaning.{meaning};
+ghost use Rattle.cnf_grammar.specs.Meaning.{unquoted, clause_of, file_text, meaning};
+ghost use Rattle.cnf_grammar.specs.Soundness.{is_clean, literal_suits, IsSound};
 ghost use Rattle.cnf_grammar.specs.Gathering.{gathered, gather_from};
 ghost use Rattle.cnf_grammar.specs.Counters.{in_formula, open_brackets, opened_by, closed_by, IsTidy};
 ghost use Rattle.cnf_grammar.specs.Laws.{LeadsToEnd, StopsAt, IsFirstFault};
@@ -72,4 +76,23 @@ pub fn items_are_followed()
     ensures other { (words : List Bool) (tokens : List Shape) → gives_conclusions tokens ≡ false → IsSome (item_run words (Some item_start) tokens) }
     ensures front { (words : List Bool) (tokens : List Shape) → length words < 2 ^ 64 → gives_conclusions tokens ≡ true → IsSome (item_run words (Some item_start) tokens) ↔ BeginsConcludeItem words tokens }
     ensures whole { (words : List Bool) (tokens : List Shape) → gives_conclusions tokens ≡ true → (item_run words (Some item_start) tokens ≡ Some item_closed) ↔ IsConcludeItem words tokens }
+{}
+
+/// The text of a quoted form is what stands between its quotes, byte by byte, where an escaped byte stands for itself.
+pub fn quoted_forms_mean_their_parts()
+    ensures { (quote : ℕ) (items : List Item) → AreItems quote items → unquoted (quote ∷ (bytes_of items ++ quote ∷ [])) ≡ meant_by items }
+{}
+
+/// Each clause that a statement says is sound: each of its literals is always true, always false or
+/// one whole atom over its variables, and each of its variables is in a literal.
+pub fn each_clause_is_sound()
+    ensures { (name : Name) (role : List ℕ) (formula : Formula) (notes : Annotations) → IsSound (clause_of name role formula notes) }
+{}
+
+/// Where each token of a clause is clean, each of its symbols has a name and a number of arguments
+/// that are right for its kind. Where each token of an include is clean, its file's name has name
+/// bytes alone.
+pub fn clean_tokens_give_right_symbols()
+    ensures symbols { (name : Name) (role : List ℕ) (formula : Formula) (notes : Annotations) → IsTrue (list_all is_clean (spell_statement (clause name role formula notes))) → IsTrue (list_all literal_suits (clause_of name role formula notes).literals) }
+    ensures file { (file : FileName) (selection : Selection) → IsTrue (list_all is_clean (spell_statement (include file selection))) → IsTrue (list_all is_name_byte (file_text file)) }
 {}

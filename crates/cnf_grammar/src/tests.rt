@@ -1,4 +1,7 @@
-//! Tests: whole token lists go where a reader by hand says, with memory at hand.
+//! Tests: whole token lists go where a reader by hand says, with memory at hand, and where an allocation is refused
+//! the same call again.
+
+ghost use Rattle.std.specs.Prelude.{◌+◌, ◌<◌, ◌^◌};
 
 use crate::{Bracket, Brackets, ItemPlace, Mode, Place};
 use mg_word::NoMemory;
@@ -20,6 +23,17 @@ fn token(text: &[u8]) -> (TokenKind, bool) {
     }
 }
 
+/// Moves the place by the token; where memory is refused, by the same token again.
+fn move_on(place: &mut Place, kind: TokenKind, text: &[u8], plain: bool) -> Result<bool, NoMemory>
+    requires level { place.old.level + 1 < 2 ^ 32 }
+    requires depth { place.old.depth + 1 < 2 ^ 32 }
+{
+    match place.advance(kind, text, plain) {
+        Ok(moved) => Ok(moved),
+        Err(NoMemory) => place.advance(kind, text, plain),
+    }
+}
+
 /// The mode that the tokens between the spaces lead to, if they lead on.
 fn follow(alloc: Global, spaced: &[u8]) -> Result<Option<Mode>, NoMemory> {
     let mut place = Place::start(alloc);
@@ -28,7 +42,7 @@ fn follow(alloc: Global, spaced: &[u8]) -> Result<Option<Mode>, NoMemory> {
             return Ok(None);
         }
         let (kind, plain) = token(text);
-        if !place.advance(kind, text, plain)? {
+        if !move_on(&mut place, kind, text, plain)? {
             return Ok(None);
         }
     }
@@ -68,8 +82,14 @@ fn follows_token_lists(rt: HostRuntime) -> Result<(), Fail> {
 #[test]
 fn keeps_brackets(rt: HostRuntime) -> Result<(), Fail> {
     let mut brackets = Brackets::empty(rt.alloc());
-    brackets.push(Bracket::Round)?;
-    brackets.push(Bracket::Square)?;
+    if brackets.push(Bracket::Round).is_err() {
+        assert_eq!(rt; brackets.innermost(), None);
+        brackets.push(Bracket::Round)?;
+    }
+    if brackets.push(Bracket::Square).is_err() {
+        assert_eq!(rt; brackets.innermost(), Some(Bracket::Round));
+        brackets.push(Bracket::Square)?;
+    }
     assert_eq!(rt; brackets.innermost(), Some(Bracket::Square));
     brackets.close();
     assert_eq!(rt; brackets.innermost(), Some(Bracket::Round));

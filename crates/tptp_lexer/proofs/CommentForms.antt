@@ -12,6 +12,7 @@ unfolding is_in_line
 ends_by [] e = tt
 ends_by (b ∷ bs) e = eqb-true b 10 (not-false (b == 10) e)
 
+-- behind the line of a comment its line ends
 pub line-ends : (bytes : List ℕ) → EndsLine (drop (line_len bytes) bytes)
 line-ends bytes = ends_by (drop (line_len bytes) bytes) (run-ends is_in_line bytes)
 
@@ -53,6 +54,7 @@ close-later b bs n t found = record {
     none ([], after, e) = let is : b ≡ 42 = cc in let same : take n bs ++ 42 ∷ [] ≡ 47 ∷ after = cc in not-here b bs n t after is same
     none (x ∷ before, after, e) = let same : take n bs ++ 42 ∷ [] ≡ before ++ 42 ∷ 47 ∷ after = cc in found.first (before, after, same)
 
+-- the close that is found is the first
 pub before_close-first : (bytes : List ℕ) (n : ℕ) → before_close bytes ≡ Some n → IsFirstClose bytes n
 unfolding before_close
 before_close-first [] n e = cc

@@ -7,7 +7,7 @@ use Rattle.tptp_lexer.specs.Pieces.{block_piece, slash_piece, piece_from, piece_
 use Rattle.tptp_lexer.specs.Spots.{passed, first_spot}
 use Rattle.tptp_lexer.specs.Tokens.{Lexed, token_of, lexed_from, tokens_of}
 use Rattle.tptp_lexer.specs.Forms.{HasForm}
-use Rattle.tptp_lexer.specs.Cuts.{HoldsClose, IsBlank, IsGap, NoBlank, NoToken, IsLongest, IsNext, IsStuck, EndsBy, IsCut}
+use Rattle.tptp_lexer.specs.Cuts.{HoldsClose, IsBlank, IsGap, NoBlank, NoOpening, NoToken, IsLongest, IsNext, IsStuck, EndsBy, IsCut}
 use Rattle.tptp_lexer.specs.declared.piece.Piece.{Piece}
 use Rattle.tptp_lexer.specs.declared.piece.Piece.TheVariants.{Blank, Lexeme, Fault, End}
 use Rattle.tptp_lexer.specs.declared.spot.Spot.{Spot}
@@ -22,6 +22,7 @@ use Rattle.tptp_lexer.proofs.Places.{passed-behind}
 use Rattle.tptp_lexer.proofs.Lexing.{behind, lexed_from-blank, lexed_from-lexeme, lexed_from-fault, lexed_from-end}
 use Rattle.tptp_lexer.proofs.CommentForms.{before_close-none}
 use Rattle.tptp_lexer.proofs.NumberBounds.{number-led}
+use Rattle.tptp_lexer.proofs.PlainForms.{plain-form}
 use Rattle.tptp_lexer.proofs.PieceForms.{IsRight, piece-right}
 use Rattle.tptp_lexer.proofs.PieceBounds.{IsAtLeast, form-bound, piece-percent, piece-slash}
 
@@ -69,6 +70,33 @@ longest-lexeme bytes kind n piece more rest e some token =
     let bound = subst (IsAtLeast (length (take n bytes ++ more))) (ap piece_of whole ∙ piece) (form-bound token.0 (take n bytes ++ more) rest token.1) in
     some (nil_from_length more (omega (arith, bound, within.1, length-append (take n bytes) more, length-take n bytes)))
 
+-- each token has at least one byte of its own
+pub form-some : (kind : TokenKind) (text : List ℕ) → HasForm kind text → 0 < length text
+form-some Lower [] form = absurd form
+form-some Lower (b ∷ bs) form = omega arith
+form-some Upper [] form = absurd form
+form-some Upper (b ∷ bs) form = omega arith
+form-some Quoted text form = omega (arith, ap length form.2)
+form-some Distinct text form = omega (arith, ap length form.2)
+form-some Dollar text (name, form, inl is) = omega (arith, ap length is)
+form-some Dollar text (name, form, inr is) = omega (arith, ap length is)
+form-some Number text form = let led = number-led text [] form in omega (arith, ap length led.is)
+form-some NotEqual text form = omega (arith, ap length form)
+form-some (Punct b) text form = omega (arith, ap length form.0)
+
+block-solid : (found : Option ℕ) (kind : TokenKind) (n : ℕ) → block_piece found ≡ Lexeme kind n → ⊥
+block-solid None kind n e = cc
+block-solid (Some m) kind n e = cc
+
+slash-block : (inside : List ℕ) → slash_piece (42 ∷ inside) ≡ block_piece (before_close inside)
+unfolding slash_piece
+slash-block inside = refl
+
+-- where a token begins no comment opens
+lexeme-no_opening : (bytes : List ℕ) (kind : TokenKind) (n : ℕ) → piece_of bytes ≡ Lexeme kind n → NoOpening bytes
+lexeme-no_opening bytes kind n piece inside e =
+    block-solid (before_close inside) kind n (sym (piece-slash (42 ∷ inside) ∙ slash-block inside) ∙ sym (ap piece_of e) ∙ piece)
+
 lexeme-next : (bytes : List ℕ) (spot : Spot) (kind : TokenKind) (n : ℕ) → piece_of bytes ≡ Lexeme kind n → IsNext spot.offset bytes (token_of spot kind (take n bytes)) (drop n bytes)
 lexeme-next bytes spot kind n piece = record {
   gap = [];
@@ -80,9 +108,12 @@ lexeme-next bytes spot kind n piece = record {
   form = subst (IsRight bytes) piece (piece-right bytes);
   longest = longest-lexeme bytes kind n piece;
   no_blank = subst NoBlank (sym (take-append-drop n bytes)) (solid-lexeme bytes kind n piece);
+  no_opening = subst NoOpening (sym (take-append-drop n bytes)) (lexeme-no_opening bytes kind n piece);
+  plain = plain-form kind (take n bytes) (form-some kind (take n bytes) (subst (IsRight bytes) piece (piece-right bytes)));
 }
 
-gap-more : (text gap after : List ℕ) → IsBlank text (gap ++ after) → IsGap gap after → IsGap (text ++ gap) after
+-- a gap goes on with one more white space or comment before it
+pub gap-more : (text gap after : List ℕ) → IsBlank text (gap ++ after) → IsGap gap after → IsGap (text ++ gap) after
 gap-more text gap after blank (texts, blanks, is) = (text ∷ texts, (subst (λ g. IsBlank text (g ++ after)) is blank, blanks), ap (λ g. text ++ g) is)
 
 next-blank : (offset : ℕ) (text rest : List ℕ) (token : Token) (after : List ℕ) → IsBlank text rest → IsNext (offset + length text) rest token after → IsNext offset (text ++ rest) token after
@@ -96,6 +127,8 @@ next-blank offset text rest token after blank next = record {
   form = next.form;
   longest = next.longest;
   no_blank = next.no_blank;
+  no_opening = next.no_opening;
+  plain = next.plain;
 }
 
 ends-blank : (text rest : List ℕ) (fault : Option LexFault) → IsBlank text rest → EndsBy rest fault → EndsBy (text ++ rest) fault
@@ -152,6 +185,7 @@ end-cut bytes spot piece =
     let none : bytes ≡ [] = subst (IsRight bytes) piece (piece-right bytes) in
     subst (IsCutBy spot.offset bytes) (sym (lexed_from-end bytes spot piece)) ([], tt, none)
 
+-- a text of at most this size is cut by what is read off it, from any place on
 pub cut-within : (size : ℕ) (bytes : List ℕ) (spot : Spot) → length bytes ≤ size → IsCutBy spot.offset bytes (lexed_from bytes spot 0)
 cut-within zero [] spot le = end-cut [] spot refl
 cut-within zero (b ∷ bs) spot le = absurd (omega arith)
@@ -166,22 +200,9 @@ cut-within (suc size) bytes spot le =
     by (Fault kind n) piece within rest = fault-cut bytes spot kind n piece
     by End piece within rest = end-cut bytes spot piece
 
+-- a text is cut by its tokens
 pub tokens-cut : (bytes : List ℕ) → IsCutBy 0 bytes (tokens_of bytes)
 tokens-cut bytes = cut-within (length bytes) bytes first_spot (omega arith)
-
--- each token has at least one byte of its own
-form-some : (kind : TokenKind) (text : List ℕ) → HasForm kind text → 0 < length text
-form-some Lower [] form = absurd form
-form-some Lower (b ∷ bs) form = omega arith
-form-some Upper [] form = absurd form
-form-some Upper (b ∷ bs) form = omega arith
-form-some Quoted text form = omega (arith, ap length form.2)
-form-some Distinct text form = omega (arith, ap length form.2)
-form-some Dollar text (name, form, inl is) = omega (arith, ap length is)
-form-some Dollar text (name, form, inr is) = omega (arith, ap length is)
-form-some Number text form = let led = number-led text [] form in omega (arith, ap length led.is)
-form-some NotEqual text form = omega (arith, ap length form)
-form-some (Punct b) text form = omega (arith, ap length form.0)
 
 cut-few : (offset : ℕ) (bytes : List ℕ) (tokens : List Token) (fault : Option LexFault) → IsCut offset bytes tokens fault → length tokens ≤ length bytes
 cut-few offset bytes [] fault cut = omega arith
@@ -191,5 +212,10 @@ cut-few offset bytes (token ∷ tokens) fault (after, next, more) =
     ap length next.cut ∙ length-append next.gap (next.text ++ after) ∙ ap (λ n. length next.gap + n) (length-append next.text after) in
     omega (arith, some, size, cut-few token.end after tokens fault more)
 
+-- from any place on there are no more tokens than bytes
+pub left-few : (bytes : List ℕ) (spot : Spot) → length (lexed_from bytes spot 0).tokens ≤ length bytes
+left-few bytes spot = cut-few spot.offset bytes (lexed_from bytes spot 0).tokens (lexed_from bytes spot 0).fault (cut-within (length bytes) bytes spot (omega arith))
+
+-- a text has no more tokens than bytes
 pub tokens-few : (bytes : List ℕ) → length (tokens_of bytes).tokens ≤ length bytes
-tokens-few bytes = cut-few 0 bytes (tokens_of bytes).tokens (tokens_of bytes).fault (tokens-cut bytes)
+tokens-few bytes = left-few bytes first_spot

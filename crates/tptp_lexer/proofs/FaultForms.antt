@@ -153,6 +153,7 @@ escape-flaw quote c bs n prints e g flaw f rest =
         (subst (λ p. first_flaw quote p (take yet.less bs) ≡ Some later.found) unpaired later.later) in
         subst (λ x. FlawAt quote (92 ∷ c ∷ bs) (one_later x)) (sym later.is) (after-escaped quote c bs later.found good found)
 
+-- the fault that is found in a closed form is its first
 pub flaw-form : (quote : ℕ) → is_printable quote ≡ true → (bytes : List ℕ) (n : ℕ) (flaw : Flaw) → before_quote quote false bytes ≡ Some n → first_flaw quote false (take n bytes) ≡ Some flaw → FlawAt quote bytes flaw
 unfolding before_quote first_flaw
 flaw-form quote prints [] n flaw e f = cc

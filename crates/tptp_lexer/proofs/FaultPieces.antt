@@ -120,6 +120,7 @@ from-faulty b bs =
     (λ _. cond_both (is_upper b) _ _ (IsFaulty (b ∷ bs)) (λ _. tt)
     (λ _. cond_both (starts_number b bs) _ _ (IsFaulty (b ∷ bs)) (λ _. tt) (λ _. mark-faulty b bs w))))
 
+-- where the piece at the front is a fault, the fault stands there
 pub piece-faulty : (bytes : List ℕ) → IsFaulty bytes (piece_of bytes)
 piece-faulty [] = tt
 piece-faulty (b ∷ bs) = from-faulty b bs

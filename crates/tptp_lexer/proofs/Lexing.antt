@@ -29,6 +29,7 @@ behind-first b bs spot (suc n) some le =
     ap (lexed_from bs (past spot b)) less
     ∙ lexed_from-passing bs (past spot b) n (omega arith) ∙ ap (λ s. lexed_from (drop n bs) s 0) (sym (passed-cons spot b (take n bs)))
 
+-- white space or a comment is passed over
 pub lexed_from-blank : (bytes : List ℕ) (spot : Spot) (n : ℕ) → piece_of bytes ≡ Blank n → 0 < n → n ≤ length bytes → lexed_from bytes spot 0 ≡ behind bytes spot n
 unfolding lexed_from
 lexed_from-blank [] spot n e some le = cc
@@ -39,6 +40,7 @@ lexed_from-blank (b ∷ bs) spot n e some le =
 abbrev pub preceded : List ℕ → Spot → ℕ → TokenKind → Lexed → Lexed
 preceded bytes spot n kind lexed = preceded_by (token_of spot kind (take n bytes)) lexed
 
+-- a token comes first, and then what is behind it
 pub lexed_from-lexeme : (bytes : List ℕ) (spot : Spot) (kind : TokenKind) (n : ℕ) → piece_of bytes ≡ Lexeme kind n → 0 < n → n ≤ length bytes
     → lexed_from bytes spot 0 ≡ preceded bytes spot n kind (behind bytes spot n)
 unfolding lexed_from
@@ -46,12 +48,14 @@ lexed_from-lexeme [] spot kind n e some le = cc
 lexed_from-lexeme (b ∷ bs) spot kind n e some le =
     ap (λ piece. lexed_by piece spot (b ∷ bs) (λ m. lexed_from bs (past spot b) m)) e ∙ ap (preceded (b ∷ bs) spot n kind) (behind-first b bs spot n some le)
 
+-- a fault ends the tokens
 pub lexed_from-fault : (bytes : List ℕ) (spot : Spot) (kind : LexKind) (n : ℕ) → piece_of bytes ≡ Fault kind n
     → lexed_from bytes spot 0 ≡ record { tokens = []; fault = Some (fault_at kind (passed spot (take n bytes))) }
 unfolding lexed_from
 lexed_from-fault [] spot kind n e = cc
 lexed_from-fault (b ∷ bs) spot kind n e = ap (λ piece. lexed_by piece spot (b ∷ bs) (λ m. lexed_from bs (past spot b) m)) e
 
+-- the end ends the tokens
 pub lexed_from-end : (bytes : List ℕ) (spot : Spot) → piece_of bytes ≡ End → lexed_from bytes spot 0 ≡ record { tokens = []; fault = None }
 unfolding lexed_from
 lexed_from-end [] spot e = refl

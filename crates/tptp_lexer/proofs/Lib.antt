@@ -14,6 +14,8 @@ pub mod CommentForms
 pub mod PieceForms
 pub mod NumberBounds
 pub mod PieceBounds
+pub mod PlainForms
+pub mod OneKind
 pub mod CutLaw
 pub mod LineLaw
 pub mod FaultForms

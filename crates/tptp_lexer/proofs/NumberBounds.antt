@@ -16,6 +16,7 @@ digits-each : (digits : List ℕ) → IsDigits digits → Each is_digit digits
 digits-each [] form = absurd form
 digits-each (b ∷ bs) form = form
 
+-- signed digits begin a number, whatever comes behind them
 pub whole-starts : (b : ℕ) (bs more : List ℕ) → IsSigned (b ∷ bs) → starts_number b (bs ++ more) ≡ true
 whole-starts b bs more (inl form) = or_left (is_digit b) (is_sign b && begins is_digit (bs ++ more)) form.0
 whole-starts b bs more (inr form) =
@@ -153,6 +154,7 @@ decimal-led (b ∷ bs) fraction exponent text more signed form raised is =
           rest-exact bs (fraction ++ (exponent ++ more)) (whole-each b bs signed) (tail-begins fraction exponent more form raised some),
         )
 
+-- the first byte of a number begins one, and the scan takes at least its text
 pub number-led : (text more : List ℕ) → IsNumber text → IsLed text more
 number-led text more (inl form) = quotient-led form.0 form.1 text more form.2 form.3 form.4
 number-led text more (inr form) = decimal-led form.0 form.1 form.2 text more form.3 form.4 form.5 form.6

@@ -7,6 +7,7 @@ use Rattle.tptp_lexer.specs.Numbers.{digits_len, marked_len, starts_number, sign
 use Rattle.tptp_lexer.specs.Forms.{IsDigits, IsSigned, IsFraction, IsExponent, IsNumber}
 use Rattle.tptp_lexer.proofs.Runs.{each-run, none_or_some}
 
+-- a run of digits that is not empty is digits
 pub digits-form : (bytes : List ℕ) → begins is_digit bytes ≡ true → IsDigits (take (digits_len bytes) bytes)
 digits-form [] e = cc
 digits-form (b ∷ bs) e = let next : 1 + digits_len bs ≡ suc (digits_len bs) = omega arith in rw (e, next) (e, each-run is_digit bs)
@@ -16,6 +17,7 @@ signed_by : (b : ℕ) (bs : List ℕ) → (is_digit b ≡ true) ⊎ (is_sign b &
 signed_by b bs (inl e) = inl (e, each-run is_digit bs)
 signed_by b bs (inr e) = let parts = and_parts (is_sign b) (begins is_digit bs) e in inr (parts.0, digits-form bs parts.1)
 
+-- a byte that begins a number, with the digits behind it, is signed digits
 pub whole-form : (b : ℕ) (bs : List ℕ) → starts_number b bs ≡ true → IsSigned (b ∷ take (digits_len bs) bs)
 whole-form b bs e = signed_by b bs (or_cases (is_digit b) (is_sign b && begins is_digit bs) e)
 
@@ -32,6 +34,7 @@ marked-form mark (b ∷ bs) some = by (b == mark && begins is_digit bs) refl som
         (take (digits_len bs) bs, digits-form bs parts.1, rw next (ap (λ c. c ∷ take (digits_len bs) bs) (eqb-true b mark parts.0)))
     by false e some = absurd (omega arith)
 
+-- a fraction as it is scanned has its form
 pub fraction-form : (bytes : List ℕ) → IsFraction (take (marked_len 46 bytes) bytes)
 fraction-form bytes = by (none_or_some (marked_len 46 bytes))
   where
@@ -39,6 +42,7 @@ fraction-form bytes = by (none_or_some (marked_len 46 bytes))
     by (inl e) = subst (λ n. IsFraction (take n bytes)) (sym e) tt
     by (inr some) = let form = marked-form 46 bytes some in subst IsFraction (sym form.2) (refl, form.1)
 
+-- so have signed digits
 pub signed-form : (bytes : List ℕ) → 0 < signed_len bytes → IsSigned (take (signed_len bytes) bytes)
 signed-form [] some = absurd (omega arith)
 signed-form (b ∷ bs) some = by (starts_number b bs) refl some
@@ -47,6 +51,7 @@ signed-form (b ∷ bs) some = by (starts_number b bs) refl some
     by true e some = let next : 1 + digits_len bs ≡ suc (digits_len bs) = omega arith in rw next (whole-form b bs e)
     by false e some = absurd (omega arith)
 
+-- so has an exponent
 pub exponent-form : (bytes : List ℕ) → IsExponent (take (exponent_len bytes) bytes)
 exponent-form [] = tt
 exponent-form (b ∷ bs) = by (is_exponent_mark b && nat_lt 0 (signed_len bs)) refl
@@ -69,6 +74,7 @@ tail-form whole bytes signed =
     let x = exponent_len (drop f bytes) in
     inr (whole, take f bytes, take x (drop f bytes), signed, fraction-form bytes, exponent-form (drop f bytes), ap (λ l. whole ++ l) (take-add f x bytes)))
 
+-- so has a number
 pub number-form : (b : ℕ) (bs : List ℕ) → starts_number b bs ≡ true → IsNumber (take (1 + number_rest_len bs) (b ∷ bs))
 unfolding number_rest_len
 number-form b bs e =

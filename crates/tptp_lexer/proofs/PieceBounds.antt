@@ -208,10 +208,14 @@ bang-one bs = cond_both (begins (λ b. b == 61) bs) (Lexeme NotEqual 2) (Lexeme 
 -- what a byte that may stand alone is, and is not
 pub record StandsAlone (b : ℕ) : Type 0 where
   pub visible : is_visible b ≡ true
+  pub lower : is_lower b ≡ false
+  pub upper : is_upper b ≡ false
+  pub digit : is_digit b ≡ false
   pub double : b == 34 ≡ false
   pub single : b == 39 ≡ false
 
-mark-parts : (b : ℕ) → is_mark b ≡ true → StandsAlone b
+-- a mark stands alone
+pub mark-parts : (b : ℕ) → is_mark b ≡ true → StandsAlone b
 unfolding is_mark
 mark-parts b e =
     let halves = and_parts (is_visible b) (not (is_lower b || is_upper b || is_digit b || b == 34 || b == 37 || b == 39)) e in
@@ -219,7 +223,9 @@ mark-parts b e =
     let last = or_parts (is_lower b || is_upper b || is_digit b || b == 34 || b == 37) (b == 39) none in
     let more = or_parts (is_lower b || is_upper b || is_digit b || b == 34) (b == 37) last.0 in
     let quotes = or_parts (is_lower b || is_upper b || is_digit b) (b == 34) more.0 in
-    record { visible = halves.0; double = quotes.1; single = last.1 }
+    let digits = or_parts (is_lower b || is_upper b) (is_digit b) quotes.0 in
+    let letters = or_parts (is_lower b) (is_upper b) digits.0 in
+    record { visible = halves.0; lower = letters.0; upper = letters.1; digit = digits.1; double = quotes.1; single = last.1 }
 
 mark-one : (b : ℕ) (bs : List ℕ) → StandsAlone b → IsAtLeast 1 (mark_piece b bs)
 unfolding mark_piece

@@ -145,6 +145,7 @@ from-right b bs =
     (λ u. cond_both (starts_number b bs) _ _ (IsRight (b ∷ bs)) (λ e. number-form b bs e)
     (λ n. other-right b bs l u (or_parts (is_digit b) (is_sign b && begins is_digit bs) n).0))))
 
+-- the piece at the front of a text has its form
 pub piece-right : (bytes : List ℕ) → IsRight bytes (piece_of bytes)
 piece-right [] = refl
 piece-right (b ∷ bs) = from-right b bs

@@ -30,6 +30,7 @@ pub record IsRoomy (bytes : List ℕ) (spot : Spot) (text : List ℕ) (n : ℕ) 
   pub line : spot.line + length text ≤ 1 + length bytes
   pub column : spot.column + length text ≤ 1 + length bytes
 
+-- a stretch keeps its bounds
 pub stretch-roomy : (bytes : List ℕ) (spot : Spot) (rest text : List ℕ) (n : ℕ) → IsStretch bytes spot rest text n → IsRoomy bytes spot text n
 stretch-roomy bytes spot rest text n s =
     let near = subst (λ p. IsBehind first_spot spot.offset p) (sym s.placed.counted) (spot_at-behind bytes spot.offset s.placed.within) in
@@ -50,12 +51,14 @@ blank-stretch bytes spot rest text n placed rest_is text_is piece =
     let bounds = piece-bounds rest (Blank n) piece in
     record { placed = placed; rest_is = rest_is; text_is = text_is; fits = bounds.1 }
 
+-- the same of a token
 pub lexeme-stretch : (bytes : List ℕ) (spot : Spot) (rest text : List ℕ) (n : ℕ) → IsPlace bytes spot → rest ≡ drop spot.offset bytes → text ≡ take n rest → (kind : TokenKind) → Lexeme kind n ≡ piece_of rest
     → IsStretch bytes spot rest text n
 lexeme-stretch bytes spot rest text n placed rest_is text_is kind piece =
     let bounds = piece-bounds rest (Lexeme kind n) piece in
     record { placed = placed; rest_is = rest_is; text_is = text_is; fits = bounds.1 }
 
+-- the same of what comes before a fault
 pub fault-stretch : (bytes : List ℕ) (spot : Spot) (rest text : List ℕ) (n : ℕ) → IsPlace bytes spot → rest ≡ drop spot.offset bytes → text ≡ take n rest → (kind : LexKind) → Fault kind n ≡ piece_of rest
     → IsStretch bytes spot rest text n
 fault-stretch bytes spot rest text n placed rest_is text_is kind piece =
@@ -86,12 +89,14 @@ behind-there bytes spot rest text n s next e =
     let place : passed spot (take n rest) ≡ spot_at bytes next.offset = ap (passed spot) (sym s.text_is) ∙ sym e ∙ there.1.counted in
     ap (λ l. lexed_from l (passed spot (take n rest)) 0) left ∙ ap (λ p. lexed_from (drop next.offset bytes) p 0) place
 
+-- behind white space or a comment the same tokens are left
 pub stretch-blank : (bytes : List ℕ) (spot : Spot) (rest text : List ℕ) (n : ℕ) → IsStretch bytes spot rest text n → (next : Spot) → next ≡ passed spot text → Blank n ≡ piece_of rest
     → lexed_at bytes spot.offset ≡ lexed_at bytes next.offset
 stretch-blank bytes spot rest text n s next e piece =
     let bounds = piece-bounds rest (Blank n) piece in
     lexed_at-here bytes spot rest s.placed s.rest_is ∙ lexed_from-blank rest spot n (sym piece) bounds.0 bounds.1 ∙ behind-there bytes spot rest text n s next e
 
+-- behind a token the others are left
 pub stretch-lexeme : (bytes : List ℕ) (spot : Spot) (rest text : List ℕ) (n : ℕ) → IsStretch bytes spot rest text n → (next : Spot) → next ≡ passed spot text
     → (kind : TokenKind) → Lexeme kind n ≡ piece_of rest
     → lexed_at bytes spot.offset ≡ preceded_by (token_of spot kind text) (lexed_at bytes next.offset)
@@ -122,6 +127,7 @@ stretch-token bytes spot rest text n s kind piece token e =
       plain = rw (same, of_kind) (ap (λ t. t.plain) e);
     }
 
+-- at a fault no token is left
 pub stretch-fault : (bytes : List ℕ) (spot : Spot) (rest text : List ℕ) (n : ℕ) → IsStretch bytes spot rest text n → (kind : LexKind) → Fault kind n ≡ piece_of rest
     → lexed_at bytes spot.offset ≡ record { tokens = []; fault = Some (fault_at kind (passed spot text)) }
 stretch-fault bytes spot rest text n s kind piece =
@@ -129,6 +135,7 @@ stretch-fault bytes spot rest text n s kind piece =
     ∙ lexed_from-fault rest spot kind n (sym piece)
     ∙ ap (λ t. record { tokens = []; fault = Some (fault_at kind (passed spot t)) }) (sym s.text_is)
 
+-- at the end no token and no fault is left
 pub lexed_at-end : (bytes : List ℕ) (spot : Spot) (rest : List ℕ) → IsPlace bytes spot → rest ≡ drop spot.offset bytes → End ≡ piece_of rest
     → lexed_at bytes spot.offset ≡ record { tokens = []; fault = None }
 lexed_at-end bytes spot rest placed rest_is piece = lexed_at-here bytes spot rest placed rest_is ∙ lexed_from-end rest spot (sym piece)

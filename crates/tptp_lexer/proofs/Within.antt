@@ -89,6 +89,7 @@ from-within b bs =
     (λ _. cond_both (starts_number b bs) _ _ (IsWithin (1 + length bs)) (λ _. (omega arith, omega (arith, number_rest_len-le bs)))
     (λ _. mark-within b bs))))
 
+-- the piece at the front of a text is within it
 pub piece-within : (bytes : List ℕ) → IsWithin (length bytes) (piece_of bytes)
 piece-within [] = tt
 piece-within (b ∷ bs) = let size : 1 + length bs ≡ suc (length bs) = omega arith in rw (← size) (from-within b bs)

@@ -1,8 +1,8 @@
 -- A text as passed-over text and tokens in turn.
-use Rattle.std.specs.Prelude.{◌≡◌, ◌≢◌, ◌⊎◌, ℕ, ◌+◌, true, List, [], ◌∷◌, ◌++◌, Option, Some, None, length}
+use Rattle.std.specs.Prelude.{◌≡◌, ◌≢◌, ◌⊎◌, ◌↔◌, ℕ, ◌+◌, true, List, [], ◌∷◌, ◌++◌, Option, Some, None, length}
 use Rattle.std.specs.List.{concat}
 use Rattle.tptp_lexer.specs.Bytes.{is_white, is_in_line}
-use Rattle.tptp_lexer.specs.Forms.{Each, HasForm, IsToken}
+use Rattle.tptp_lexer.specs.Forms.{Each, HasForm, IsPlain, IsToken}
 use Rattle.tptp_lexer.specs.declared.token.Token.{Token}
 use Rattle.tptp_lexer.specs.declared.token.LexKind.{LexKind}
 use Rattle.tptp_lexer.specs.declared.token.LexKind.TheVariants.{BadByte, OpenQuote, BadEscape, OpenComment}
@@ -46,6 +46,10 @@ IsGap gap after = (texts : List (List ℕ)) × AreBlank texts after × (gap ≡ 
 abbrev pub NoBlank : List ℕ → Type 0
 NoBlank bytes = (front rest : List ℕ) → bytes ≡ front ++ rest → IsBlank front rest → ⊥
 
+-- no comment opens with `/*` here
+abbrev pub NoOpening : List ℕ → Type 0
+NoOpening bytes = (inside : List ℕ) → bytes ≡ 47 ∷ 42 ∷ inside → ⊥
+
 -- no token begins here
 abbrev pub NoToken : List ℕ → Type 0
 NoToken bytes = (front rest : List ℕ) → bytes ≡ front ++ rest → IsToken front → ⊥
@@ -65,6 +69,8 @@ pub record IsNext (offset : ℕ) (bytes : List ℕ) (token : Token) (after : Lis
   pub form : HasForm token.kind text
   pub longest : IsLongest text after
   pub no_blank : NoBlank (text ++ after)
+  pub no_opening : NoOpening (text ++ after)
+  pub plain : (token.plain ≡ true) ↔ IsPlain token.kind text
 
 -- why nothing can be cut off here: an open comment, or bytes that no token begins
 abbrev pub IsStuck : LexKind → List ℕ → Type 0

@@ -2,8 +2,9 @@
 use Rattle.std.specs.Prelude.{◌≡◌, ◌⊎◌, ℕ, ◌+◌, ◌<◌, false, List, [], ◌∷◌, ◌++◌, Option, Some, None, length, take, drop, ◌==◌, ◌||◌}
 use Rattle.tptp_lexer.specs.Bytes.{is_white, is_visible, is_printable, is_line_end, begins}
 use Rattle.tptp_lexer.specs.Forms.{Item, plain, escaped, bytes_of, AreItems}
-use Rattle.tptp_lexer.specs.Cuts.{HoldsClose}
+use Rattle.tptp_lexer.specs.Cuts.{HoldsClose, IsGap}
 use Rattle.tptp_lexer.specs.Lines.{IsPlaceBehind}
+use Rattle.tptp_lexer.specs.declared.token.Token.{Token}
 use Rattle.tptp_lexer.specs.declared.token.LexKind.{LexKind}
 use Rattle.tptp_lexer.specs.declared.token.LexKind.TheVariants.{BadByte, OpenQuote, BadEscape, OpenComment}
 use Rattle.tptp_lexer.specs.declared.token.LexFault.{LexFault}
@@ -54,8 +55,23 @@ FaultStands OpenQuote bytes n = (n ≡ 0) × (quote : ℕ) × (inside : List ℕ
 FaultStands BadEscape bytes n = StandsInside BadEscape bytes n
 FaultStands OpenComment bytes n = (n ≡ 0) × (inside : List ℕ) × (HoldsClose inside → ⊥) × (bytes ≡ 47 ∷ 42 ∷ inside)
 
--- a token would begin behind the first m bytes, and n bytes further on the fault stands, at its line and column
-abbrev pub IsFaultOf : List ℕ → Option LexFault → Type 0
-IsFaultOf bytes None = Unit {0}
-IsFaultOf bytes (Some fault) =
-    (m n : ℕ) × FaultStands fault.kind (drop m bytes) n × (m + n < length bytes) × IsPlaceBehind (take (m + n) bytes) fault.line fault.column
+-- the offset behind the last of these tokens; this one where there is none
+abbrev pub end_of : ℕ → List Token → ℕ
+end_of offset [] = offset
+end_of offset (token ∷ tokens) = end_of token.end tokens
+
+-- behind so many bytes of the text comes a gap, where a token would begin then, and so many bytes further on the fault stands, at its line and column
+pub record StandsBehind (bytes : List ℕ) (offset : ℕ) (fault : LexFault) : Type 0 where
+  pub gap : List ℕ
+  pub after : List ℕ
+  pub cut : drop offset bytes ≡ gap ++ after
+  pub passed_over : IsGap gap after
+  pub n : ℕ
+  pub stands : FaultStands fault.kind after n
+  pub within : n < length after
+  pub place : IsPlaceBehind (take (offset + length gap + n) bytes) fault.line fault.column
+
+-- the fault, if there is one, stands behind so many bytes of the text
+abbrev pub IsFaultOf : List ℕ → ℕ → Option LexFault → Type 0
+IsFaultOf bytes offset None = Unit {0}
+IsFaultOf bytes offset (Some fault) = StandsBehind bytes offset fault

@@ -1,5 +1,5 @@
 -- The forms of tokens, as the table of tokens says them, without a scan.
-use Rattle.std.specs.Prelude.{◌≡◌, ◌⊎◌, ℕ, Bool, true, false, List, [], ◌∷◌, ◌++◌, ◌==◌, ◌&&◌, ◌||◌, not}
+use Rattle.std.specs.Prelude.{◌≡◌, ◌≢◌, ◌⊎◌, ℕ, Bool, true, false, List, [], ◌∷◌, ◌++◌, ◌==◌, ◌&&◌, ◌||◌, not}
 use Rattle.tptp_lexer.specs.Bytes.{is_lower, is_upper, is_digit, is_word, is_sign, is_exponent_mark, is_printable, is_visible}
 use Rattle.tptp_lexer.specs.declared.token.TokenKind.{TokenKind}
 use Rattle.tptp_lexer.specs.declared.token.TokenKind.TheVariants.{Lower, Upper, Quoted, Distinct, Dollar, Number, NotEqual, Punct}
@@ -34,6 +34,12 @@ abbrev pub bytes_of : List Item → List ℕ
 bytes_of [] = []
 bytes_of (plain b ∷ items) = b ∷ bytes_of items
 bytes_of (escaped b ∷ items) = 92 ∷ b ∷ bytes_of items
+
+-- the bytes that these parts stand for
+abbrev pub meant_by : List Item → List ℕ
+meant_by [] = []
+meant_by (plain b ∷ items) = b ∷ meant_by items
+meant_by (escaped b ∷ items) = b ∷ meant_by items
 
 -- bytes 32 to 126 other than the quote and the backslash stand as they are, and these two are escaped
 abbrev pub AreItems : ℕ → List Item → Type 0
@@ -90,6 +96,11 @@ IsDecimal text =
 abbrev pub IsNumber : List ℕ → Type 0
 IsNumber text = IsQuotient text ⊎ IsDecimal text
 
+-- `0`, or digits that begin with no zero
+abbrev pub IsPlainNumber : List ℕ → Type 0
+IsPlainNumber [] = ⊥
+IsPlainNumber (b ∷ bs) = (b ∷ bs ≡ 48 ∷ []) ⊎ ((is_digit b ≡ true) × (b ≢ 48) × Each is_digit bs)
+
 -- a visible byte that begins no name, no number, no quoted form and no comment to the end of the line
 unfoldable pub is_mark : ℕ → Bool
 is_mark b = is_visible b && not (is_lower b || is_upper b || is_digit b || b == 34 || b == 37 || b == 39)
@@ -104,6 +115,11 @@ HasForm Dollar text = IsDollar text
 HasForm Number text = IsNumber text
 HasForm NotEqual text = text ≡ 33 ∷ 61 ∷ []
 HasForm (Punct b) text = (text ≡ b ∷ []) × (is_mark b ≡ true)
+
+-- a text of this kind is plain: only a number is
+abbrev pub IsPlain : TokenKind → List ℕ → Type 0
+IsPlain Number text = IsPlainNumber text
+IsPlain _ text = ⊥
 
 -- the text has the form of a token
 abbrev pub IsToken : List ℕ → Type 0

@@ -84,8 +84,8 @@ fn fault_behind(bytes: &[u8], spot: Spot, kind: LexKind, n: usize) -> LexFault
     }
 }
 
-/// The next token of a text, which the cursor is one of; None at the end. Takes no memory. A fault, like the end, is
-/// answered again.
+/// The next token of a text of at most 16,777,216 bytes, which the cursor is one of; None at the end. Takes no memory.
+/// A fault, like the end, is answered again.
 pub fn next_token(bytes: &[u8], cursor: &mut Cursor) -> Result<Option<Token>, LexFault>
     requires small { length bytes.now ≤ 16777216 }
     requires at { IsAt bytes.now cursor.old }

@@ -28,7 +28,7 @@ impl<'a> Model for Lexer<'a> {
 }
 
 impl<'a> Lexer<'a> {
-    /// All tokens of the text.
+    /// All tokens of the text, which has at most 16,777,216 bytes.
     pub fn new(bytes: &'a [u8]) -> Lexer<'a>
         requires { length bytes.now ≤ 16777216 }
         ensures bytes { result.bytes ≡ bytes.now }

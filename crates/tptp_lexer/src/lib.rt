@@ -15,7 +15,7 @@ mod tests;
 mod token;
 
 pub use cursor::{Cursor, next_token};
-pub use laws::{tokens_cut_the_text, tokens_stand_at_their_places};
+pub use laws::{forms_tell_the_kind, tokens_cut_the_text, tokens_stand_at_their_places};
 pub use lexer::Lexer;
 pub use spot::Spot;
 pub use token::{LexFault, LexKind, Token, TokenKind};

@@ -49,6 +49,12 @@ const WORDS: &[(&[u8], &str)] = &[
     (b"aZ_09-", "Lower aZ_09 0-5 1:1; Punct(45) - 5-6 1:6; end"),
     (b"X", "Upper X 0-1 1:1; end"),
     (b"Xy_1", "Upper Xy_1 0-4 1:1; end"),
+    (b"AZaz09", "Upper AZaz09 0-6 1:1; end"),
+    (b"zA@", "Lower zA 0-2 1:1; Punct(64) @ 2-3 1:3; end"),
+    (
+        b"[`{",
+        "Punct(91) [ 0-1 1:1; Punct(96) ` 1-2 1:2; Punct(123) { 2-3 1:3; end",
+    ),
     (b"_a", "Punct(95) _ 0-1 1:1; Lower a 1-2 1:2; end"),
     (b"$a", "Dollar $a 0-2 1:1; end"),
     (b"$$xY9_", "Dollar $$xY9_ 0-6 1:1; end"),
@@ -72,6 +78,10 @@ const NUMBERS: &[(&[u8], &str)] = &[
     (b"00", "Number 00 0-2 1:1; end"),
     (b"120", "Number 120 0-3 1:1 plain; end"),
     (b"012", "Number 012 0-3 1:1; end"),
+    (
+        b"9:/0",
+        "Number 9 0-1 1:1 plain; Punct(58) : 1-2 1:2; Punct(47) / 2-3 1:3; Number 0 3-4 1:4 plain; end",
+    ),
     (b"-3", "Number -3 0-2 1:1; end"),
     (b"1/2", "Number 1/2 0-3 1:1; end"),
     (b"+1/23e4", "Number +1/23 0-5 1:1; Lower e4 5-7 1:6; end"),
@@ -118,6 +128,7 @@ const QUOTES: &[(&[u8], &str)] = &[
     (b"'a\x01\r'", "OpenQuote 1:1"),
     (b"\n\n 'a\tb'", "BadByte 3:4"),
     (b"\"\x80\"", "BadByte 1:2"),
+    (b"'\x1f'", "BadByte 1:2"),
     (br"'\x'", "BadEscape 1:2"),
     (b"\"\\'\"", "BadEscape 1:2"),
     (b"'\\\"'", "BadEscape 1:2"),
@@ -143,15 +154,16 @@ const COMMENTS: &[(&[u8], &str)] = &[
     (b"a\n\n\x7f", "Lower a 0-1 1:1; BadByte 3:1"),
     (b"p\x80", "Lower p 0-1 1:1; BadByte 1:2"),
     (b"\0", "BadByte 1:1"),
+    (b"\t\x08", "BadByte 1:2"),
+    (b"\r\x0e", "BadByte 1:2"),
 ];
 
 #[test]
 fn tokens_of_texts(rt: HostRuntime) -> Result<(), Fail> {
-    for table in [WORDS, NUMBERS, QUOTES, COMMENTS] {
-        for (text, wanted) in table {
-            let found = shown(rt.alloc(), text)?;
-            assert_eq!(rt; found.as_str(), *wanted);
-        }
+    let tables = [WORDS, NUMBERS, QUOTES, COMMENTS];
+    for (text, wanted) in tables.into_iter().flatten() {
+        let found = shown(rt.alloc(), text)?;
+        assert_eq!(rt; found.as_str(), *wanted);
     }
     Ok(())
 }
