@@ -1,12 +1,15 @@
 -- Lemmas on the draft of a clause: variables by their places, arguments counted at a place.
-use Rattle.std.proofs.Common.{◌≡◌, ℕ, zero, suc, ◌<◌, ◌≤◌, Bool, true, false, not, cond, List, [], ◌∷◌, ◌++◌, map, length, get_or, refl, sym, ap, ◌∙◌, arith, nat_eq, nat_lt, nat_le}
+use Rattle.std.proofs.Common.{◌≡◌, ℕ, zero, suc, ◌<◌, ◌≤◌, Bool, true, false, not, cond, List, [], ◌∷◌, ◌++◌, map, length, get_or, All, refl, sym, ap, ◌∙◌, arith, subst, nat_eq, nat_le}
 use Rattle.std.proofs.Math.ListN.{set}
 use Rattle.std.specs.Str.{bytes_eq}
 use Rattle.std.proofs.lemmas.Bool.Decides.{nat_tests}
+use Rattle.std.proofs.lemmas.List.Elements.{All-head, All-tail}
 use Rattle.std.proofs.lemmas.Slice.Eq.{bytes_eq-Decides}
+use Rattle.cnf_grammar.proofs.Once.{number_known as index_below}
 use Rattle.cnf_reader.specs.Faults.{lacks_room}
 use Rattle.cnf_grammar.specs.Meaning.{index_of, symbol_item}
 use Rattle.cnf_grammar.specs.Draft.{add_argument, has_text, with_variable}
+use Rattle.cnf_reader.specs.Sound.{HasFew}
 use Rattle.cnf_reader.specs.Drafts.{item_seen, kind_seen, text_seen}
 use Rattle.cnf_reader.specs.declared.draft.RawItem.{RawItem}
 use Rattle.cnf_reader.specs.declared.draft.RawItem.TheVariants.{Symbol, Variable}
@@ -39,26 +42,26 @@ at_symbol zero symbol arity (Symbol first ∷ items) other within is more =
     λ i. symbol_item (record { kind = kind_seen (e i).kind; text = text_seen (e i).quoted (e i).text.now; arity = arities i }) ∷ map item_seen items
 at_symbol (suc place) symbol arity (item ∷ items) other within is more = ap (λ more. item_seen item ∷ more) (at_symbol place symbol arity items other (omega arith) is more)
 
-less_suc : (a b : ℕ) → nat_lt (suc a) (suc b) ≡ nat_lt a b
-less_suc a b = grind (arith, nat_tests)
+-- a symbol of the atom has few arguments
+pub few_at : (most place : ℕ) (symbol : RawSymbol) (items : List RawItem) (other : RawItem) → place < length items → get_or items place other ≡ Symbol symbol → All (HasFew most) (map item_seen items) → symbol.arity ≤ most
+few_at most place symbol [] other within is few = absurd (omega arith)
+few_at most zero symbol (item ∷ items) other within is few = subst (λ x. HasFew most (item_seen x)) is (All-head (HasFew most) (item_seen item) (map item_seen items) few)
+few_at most (suc place) symbol (item ∷ items) other within is few = few_at most place symbol items other (omega arith) is (All-tail (HasFew most) (item_seen item) (map item_seen items) few)
 
 same_suc : (a b : ℕ) → nat_eq (suc a) (suc b) ≡ nat_eq a b
 same_suc a b = grind (arith, nat_tests)
 
-less_here : (b : ℕ) → nat_lt 0 (suc b) ≡ true
-less_here b = grind (arith, nat_tests)
-
 not_here : (b : ℕ) → nat_eq 0 (suc b) ≡ false
 not_here b = grind (arith, nat_tests)
-
--- a variable is among the others where its place is before their end
-pub known : (variables : List (List ℕ)) (text : List ℕ) → nat_lt (index_of variables text) (length variables) ≡ has_text variables text
-known [] text = refl
-known (other ∷ more) text = elim (bytes_eq other text) as (λ b. nat_lt (cond b 0 (suc (index_of more text))) (suc (length more)) ≡ cond b true (has_text more text)) [ true ↦ less_here (length more) | false ↦ less_suc (index_of more text) (length more) ∙ known more text ]
 
 pub unknown : (variables : List (List ℕ)) (text : List ℕ) → nat_eq (index_of variables text) (length variables) ≡ not (has_text variables text)
 unknown [] text = refl
 unknown (other ∷ more) text = elim (bytes_eq other text) as (λ b. nat_eq (cond b 0 (suc (index_of more text))) (suc (length more)) ≡ not (cond b true (has_text more text))) [ true ↦ not_here (length more) | false ↦ same_suc (index_of more text) (length more) ∙ unknown more text ]
+
+-- the place of a variable is not behind their end
+pub index_within : (variables : List (List ℕ)) (text : List ℕ) → index_of variables text ≤ length variables
+index_within [] text = omega arith
+index_within (other ∷ more) text = let less = index_within more text in elim (bytes_eq other text) as (λ b. cond b 0 (suc (index_of more text)) ≤ suc (length more)) [ true ↦ omega arith | false ↦ omega (arith, less) ]
 
 -- a text is itself
 pub same_text : (text : List ℕ) → bytes_eq text text ≡ true
@@ -76,18 +79,18 @@ new_last (other ∷ more) text none =
     new_behind other more text (bytes_eq other text) refl none (new_last more text)
 
 -- where a variable is known, it is not added
-pub number_known : (variables : List (List ℕ)) (text : List ℕ) (index number : ℕ) → index ≡ index_of variables text → number ≡ index → index < length variables
-    → (variables ≡ with_variable variables text) × (number ≡ index_of (with_variable variables text) text)
-number_known variables text index number found is below =
-    let has : has_text variables text ≡ true = sym (known variables text) ∙ grind (arith, nat_tests, found) in
-    rw has (refl, is ∙ found)
+pub number_known : (variables : List (List ℕ)) (text : List ℕ) (index : ℕ) → index ≡ index_of variables text → index < length variables
+    → (variables ≡ with_variable variables text) × (index ≡ index_of (with_variable variables text) text)
+number_known variables text index found below =
+    let has : has_text variables text ≡ true = sym (index_below variables text) ∙ grind (arith, nat_tests, found) in
+    rw has (refl, found)
 
 -- where it is new, it goes last
-pub number_new : (variables : List (List ℕ)) (text : List ℕ) (index number : ℕ) → index ≡ index_of variables text → number ≡ index → length variables ≤ index
-    → (variables ++ text ∷ [] ≡ with_variable variables text) × (number ≡ index_of (with_variable variables text) text)
-number_new variables text index number found is above =
-    let has : has_text variables text ≡ false = sym (known variables text) ∙ grind (arith, nat_tests, found) in
-    rw has (refl, is ∙ found ∙ sym (new_last variables text has))
+pub number_new : (variables : List (List ℕ)) (text : List ℕ) (index : ℕ) → index ≡ index_of variables text → length variables ≤ index
+    → (variables ++ text ∷ [] ≡ with_variable variables text) × (index ≡ index_of (with_variable variables text) text)
+number_new variables text index found above =
+    let has : has_text variables text ≡ false = sym (index_below variables text) ∙ grind (arith, nat_tests, found) in
+    rw has (refl, found ∙ sym (new_last variables text has))
 
 -- the variable is new, where as many as may be are there
 pub room_is : (variables : List (List ℕ)) (text : List ℕ) (index : ℕ) → index ≡ index_of variables text → 32 ≤ length variables → nat_eq index (length variables) ≡ lacks_room variables text

@@ -1,5 +1,5 @@
 -- What was opened for an include is what the definition opens.
-use Rattle.std.proofs.Common.{◌≡◌, ℕ, zero, suc, ◌-◌, ◌<◌, ◌≤◌, true, false, List, [], ◌∷◌, length, Option, Err, refl, sym, ap, ◌∙◌, arith, subst, nat_le}
+use Rattle.std.proofs.Common.{◌≡◌, ℕ, zero, suc, ◌-◌, ◌<◌, ◌≤◌, true, false, List, [], ◌∷◌, length, Option, Err, String, Global, string_bytes, refl, sym, ap, ◌∙◌, arith, subst, nat_le}
 use Rattle.std.proofs.lemmas.Bool.Decides.{nat_tests}
 use Rattle.mg_word.specs.declared.clause.Name.{Name}
 use Rattle.mg_outside.specs.Reading.{Table}
@@ -20,7 +20,6 @@ use Rattle.cnf_reader.specs.Reading.{World, Source, Opening, read_tokens, read_s
 use Rattle.cnf_reader.specs.Openings.{FindsTwo, IsOpening, found_seen}
 use Rattle.cnf_reader.specs.Frames.{FileData, Enters, source_in, next_read}
 use Rattle.std.specs.declared.vec.Vec.{Vec}
-use Rattle.std.specs.declared.alloc.Global.{Global}
 use Rattle.cnf_reader.proofs.Tries.{nothing_found}
 use Rattle.cnf_reader.specs.Entering.{IsWhole, new_file, RefusesBy, IsNotEntered, FaultIs, IsBegun, IsNotBegun}
 
@@ -108,9 +107,9 @@ module _ (told : Option Table) (root : Option (List ℕ)) (kept : Kept) (file : 
         subst (λ f. IsNotEntered told root kept file depth asked before now f) (sym is)
         (record { refuses = record { first = opening.first; second = opening.second; gives = follows Failed opening }; risen = opening.counts; whole = tt })
 
-    pub entered : (name : List ℕ) (bytes : Vec ℕ Global) (after : Kept) (inner : FileData) → IsOpening told names limit before now (Opened name bytes) → kept.bytes ≤ most_bytes → after ≡ with_file name bytes.items (with_include kept)
-        → inner ≡ new_file name (length kept.files) bytes.items → Enters told root kept file depth asked after inner
-    entered name bytes after inner opening small after_is inner_is = record {
+    pub entered : (text : String Global) (bytes : Vec ℕ Global) (after : Kept) (inner : FileData) → IsOpening told names limit before now (Opened text bytes) → kept.bytes ≤ most_bytes → after ≡ with_file (string_bytes text) bytes.items (with_include kept)
+        → inner ≡ new_file (string_bytes text) (length kept.files) bytes.items → Enters told root kept file depth asked after inner
+    entered text bytes after inner opening small after_is inner_is = record {
       first = opening.first;
       second = opening.second;
       whole = opening.counts;
@@ -118,19 +117,19 @@ module _ (told : Option Table) (root : Option (List ℕ)) (kept : Kept) (file : 
       deep = deep;
       fits = let count = ap (λ (k : Kept). k.bytes) after_is in omega (arith, count, opening.fits, limit_is);
       gives = λ world finds selections.
-          follows (Opened name bytes) opening world finds selections
-          ∙ ap (λ left. read_tokens (λ further more. include_in world root (15 - suc depth) (source_of name bytes.items (asked.names ∷ selections) (with_include kept)) further more) (source_of name bytes.items (asked.names ∷ selections) (with_include kept)) (fresh start) (with_file name bytes.items (with_include kept)) left.tokens left.fault) (sym (all_left bytes.items))
+          follows (Opened text bytes) opening world finds selections
+          ∙ ap (λ left. read_tokens (λ further more. include_in world root (15 - suc depth) (source_of (string_bytes text) bytes.items (asked.names ∷ selections) (with_include kept)) further more) (source_of (string_bytes text) bytes.items (asked.names ∷ selections) (with_include kept)) (fresh start) (with_file (string_bytes text) bytes.items (with_include kept)) left.tokens left.fault) (sym (all_left bytes.items))
           ∙ rw (inner_is, after_is) refl;
     }
 
 module _ (told : Option Table) (problem : List ℕ) (before now : Counts) where
-  pub begun : (found : List ℕ) (bytes : Vec ℕ Global) (kept after : Kept) (file : FileData) → IsOpening told (problem ∷ []) most_bytes before now (Opened found bytes) → after ≡ with_file found bytes.items kept → file ≡ new_file found (length kept.files) bytes.items
-      → IsBegun told problem kept after file
+  pub begun : (found : String Global) (bytes : Vec ℕ Global) (kept after : Kept) (file : FileData) → IsOpening told (problem ∷ []) most_bytes before now (Opened found bytes) → after ≡ with_file (string_bytes found) bytes.items kept
+      → file ≡ new_file (string_bytes found) (length kept.files) bytes.items → IsBegun told problem kept after file
   begun found bytes kept after file opening after_is file_is = record {
     first = opening.first;
     second = opening.second;
     whole = opening.counts;
-    found = found;
+    found = string_bytes found;
     bytes = bytes.items;
     within = opening.fits;
     gives = λ world finds. opening.gives 0 world finds;

@@ -18,7 +18,7 @@ use Rattle.cnf_reader.specs.Statements.{take as take_token, Takes}
 use Rattle.cnf_reader.specs.Keeping.{keep, is_full}
 use Rattle.cnf_reader.specs.Reading.{Source, read_tokens, go_on, behind, at_end, fault_at, shape_in}
 use Rattle.cnf_reader.proofs.TextKinds.{text_kind}
-use Rattle.cnf_reader.specs.Parts.{is_of_text, Lower, reads_on, source_named, IsOpen, PartIs, IsEnd}
+use Rattle.cnf_reader.specs.Parts.{is_of_text, Lower, reads_on, source_named, IsBetween, PartIs, IsEnd}
 
 -- what a token that is taken, or not, makes of the statement
 pub is_taken : (taken : Result Pending ReadKind) (new : Pending) → Takes taken None new → taken ≡ Ok new
@@ -105,14 +105,14 @@ module _ (number : ℕ) (bytes : List ℕ) (selections : List (Option (List Name
     token_within takes clause include = λ lower name. token_taken takes lower name ∙ goes_on lower (source_named number bytes selections name) kept p.place.mode new _ clause include
 
     -- it ends a clause
-    pub clause_ends : (next : Place) (after : Kept) → Takes (take_token (is_full kept) selections p (shape_in bytes token) token.line token.column) None new → p.place.mode ≡ ClauseClosed → IsOpen new.place → next ≡ new.place
+    pub clause_ends : (next : Place) (after : Kept) → Takes (take_token (is_full kept) selections p (shape_in bytes token) token.line token.column) None new → p.place.mode ≡ ClauseClosed → IsBetween new.place → next ≡ new.place
         → after ≡ keep selections kept number new → PartIs number bytes selections from kept all (Clause next) after (rest_of left)
     clause_ends next after takes mode few place is = (
-      subst IsOpen (sym place) few,
+      subst IsBetween (sym place) few,
       λ lower name. token_taken takes lower name ∙ rw (mode, place, is) refl,
     )
 
     -- it ends an include
-    pub include_ends : Takes (take_token (is_full kept) selections p (shape_in bytes token) token.line token.column) None new → p.place.mode ≡ IncludeClosed → IsOpen new.place
+    pub include_ends : Takes (take_token (is_full kept) selections p (shape_in bytes token) token.line token.column) None new → p.place.mode ≡ IncludeClosed → IsBetween new.place
         → PartIs number bytes selections from kept all (Include new.place new.asked) kept (rest_of left)
     include_ends takes mode few = (few, λ lower name. token_taken takes lower name ∙ rw mode refl)

@@ -1,8 +1,6 @@
 -- An item of an info under way: its numbers are those of its tokens.
-use Rattle.std.proofs.Common.{◌≡◌, ℕ, suc, ◌≤◌, Bool, true, false, cond, ◌&&◌, ◌==◌, ◌⊎◌, inl, inr, List, [], ◌∷◌, ◌++◌, length, map, filter, filter_map, Option, Some, None, codes, refl, sym, ◌∙◌, ap, subst, append_assoc, append-nil, arith}
+use Rattle.std.proofs.Common.{◌≡◌, ℕ, suc, ◌≤◌, Bool, true, false, cond, ◌&&◌, ◌⊎◌, inl, inr, List, [], ◌∷◌, ◌++◌, length, map, filter, filter_map, Option, Some, None, codes, refl, sym, ◌∙◌, ap, subst, append_assoc, append-nil, arith}
 use Rattle.std.proofs.lemmas.List.{map-append}
-use Rattle.std.proofs.lemmas.Bool.Decides.{nat_tests}
-use Rattle.std.proofs.lemmas.Slice.Eq.{bytes_eq-Decides}
 use Rattle.std.proofs.lemmas.List.Elements.{filter-append, filter_map-append}
 use Rattle.std.specs.Str.Parse.{digits_value}
 use Rattle.cnf_grammar.specs.declared.brackets.Bracket.{Bracket}
@@ -15,30 +13,8 @@ use Rattle.cnf_grammar.specs.Table.{in_info}
 use Rattle.cnf_grammar.specs.Conclude.{gives_conclusions, number_of_token, may_follow}
 use Rattle.cnf_grammar.specs.declared.item.ItemPlace.TheVariants.{Start as item_start, WordRead as word_read, Open as item_open, ListOpen as list_open, NumberRead as number_read, NumberStart as number_start, ListClosed as list_closed, Closed as item_closed, Other as other_item}
 use Rattle.cnf_grammar.specs.Items.{names_above, at_item, number_at, item_step}
+use Rattle.cnf_grammar.proofs.Accepting.{mark_is, keyword_is}
 use Rattle.cnf_reader.specs.Statements.{with_number, with_item}
-
-equal_numbers : (m n : ℕ) → (m == n) ≡ true → m ≡ n
-equal_numbers m n h = grind (arith, nat_tests)
-
-mark_is : (byte : ℕ) (s : Shape) → is_mark byte s ≡ true → s ≡ Punct byte
-mark_is byte (Punct b) h = ap Punct (equal_numbers b byte h)
-mark_is byte (Lower text) h = cc
-mark_is byte (Upper text) h = cc
-mark_is byte (Quoted text) h = cc
-mark_is byte (Distinct text) h = cc
-mark_is byte (Dollar text) h = cc
-mark_is byte (Number text plain) h = cc
-mark_is byte NotEqual h = cc
-
-keyword_is : (word : List ℕ) (s : Shape) → is_keyword word s ≡ true → s ≡ Lower word
-keyword_is word (Lower text) h = ap Lower ((bytes_eq-Decides text word).0 h)
-keyword_is word (Upper text) h = cc
-keyword_is word (Quoted text) h = cc
-keyword_is word (Distinct text) h = cc
-keyword_is word (Dollar text) h = cc
-keyword_is word (Number text plain) h = cc
-keyword_is word NotEqual h = cc
-keyword_is word (Punct byte) h = cc
 
 -- the place in an info with these brackets open
 abbrev pub info_place : ℕ → ℕ → List Bracket → Place

@@ -1,5 +1,5 @@
 -- A statement whose tokens were taken to its dot holds what it means.
-use Rattle.std.proofs.Common.{◌≡◌, ℕ, Bool, true, false, inr, List, [], ◌∷◌, ◌++◌, map, Option, Some, None, Ok, refl, sym, ◌∙◌, ap, subst, if◌then◌else◌}
+use Rattle.std.proofs.Common.{◌≡◌, ℕ, Bool, true, false, inr, List, [], ◌∷◌, ◌++◌, map, Option, Some, None, refl, sym, ◌∙◌, ap, subst}
 use Rattle.mg_word.specs.declared.clause.Name.{Name}
 use Rattle.cnf_grammar.specs.declared.brackets.Bracket.{Bracket}
 use Rattle.cnf_grammar.specs.declared.mode.Mode.{Mode}
@@ -8,15 +8,14 @@ use Rattle.cnf_grammar.specs.declared.place.Place.{Place}
 use Rattle.cnf_grammar.specs.Shapes.{Shape, dot, is_mark}
 use Rattle.cnf_grammar.specs.Trees as trees
 use Rattle.cnf_grammar.specs.Spelling.{spell, IsFile}
-use Rattle.cnf_grammar.specs.Table.{when, to, step_at, step, run_from, start, is_end_mode, is_end}
+use Rattle.cnf_grammar.specs.Table.{when, to, step_at, run_from, start, is_end_mode, is_end}
 use Rattle.cnf_grammar.specs.Laws.{LeadsToEnd}
 use Rattle.cnf_grammar.specs.Meaning.{ReadStatement, read_clause, read_include, meaning}
 use Rattle.cnf_grammar.specs.Gathering.{Gathered, gathered, gather_at, gather, gather_from}
-use Rattle.cnf_reader.specs.declared.fault.ReadKind.{ReadKind}
-use Rattle.cnf_reader.specs.declared.fault.ReadKind.TheVariants.{BadConclude}
 use Rattle.cnf_reader.specs.declared.pending.Pending.{Pending}
-use Rattle.cnf_reader.specs.Statements.{fresh, take, taken, fault_here, fault_before, breaks_item, is_outside_items, add_at, with_token, place_or}
+use Rattle.cnf_reader.specs.Statements.{fresh, breaks_item, is_outside_items, add_at}
 use Rattle.cnf_reader.specs.Meanings.{Written, shapes_of, ends_statement, TakesStatement, Holds, HoldsItsMeaning}
+use Rattle.cnf_reader.proofs.Taking.{Took, was_taken}
 use Rattle.cnf_reader.proofs.InItems.{conclusions}
 use Rattle.cnf_reader.proofs.Following.{is_selection_start, names_early, Follows}
 use Rattle.cnf_reader.proofs.Stepping.{follows}
@@ -43,29 +42,6 @@ dot_ends true p next e = let same : to Statement p ≡ next = cc in sym (ap is_e
 dot_ends false p next e = absurd cc
 
 module _ (is_full : Bool) (selections : List (Option (List Name))) where
-  -- a token that was taken was no fault
-  record Took (p : Pending) (s : Shape) (line column : ℕ) (q : Pending) : Type 0 where
-    next : Place
-    leads : step p.place s ≡ Some next
-    whole : breaks_item p.place.mode p s ≡ false
-    is : with_token p s line column next ≡ q
-
-  none_stands : (p : Pending) (s : Shape) (breaks : Bool) (o : Option Place) → (if breaks then Some BadConclude else fault_before is_full selections p s o) ≡ None → (breaks ≡ false) × (next : Place) × (o ≡ Some next)
-  none_stands p s true o h = absurd cc
-  none_stands p s false None h = absurd cc
-  none_stands p s false (Some next) h = (refl, next, refl)
-
-  was_taken : (p : Pending) (s : Shape) (line column : ℕ) (q : Pending) (fault : Option ReadKind) → taken fault p s line column ≡ Ok q → (fault ≡ None) × (with_token p s line column (place_or p.place (step p.place s)) ≡ q)
-  was_taken p s line column q None e = (refl, cc)
-  was_taken p s line column q (Some kind) e = absurd cc
-
-  took : (p : Pending) (s : Shape) (line column : ℕ) (q : Pending) → take is_full selections p s line column ≡ Ok q → Took p s line column q
-  unfolding take
-  took p s line column q e =
-      let w = was_taken p s line column q (fault_here is_full selections p s) e in
-      let n = none_stands p s (breaks_item p.place.mode p s) (step p.place s) w.0 in
-      record { next = n.1; leads = n.2; whole = n.0; is = ap (λ o. with_token p s line column (place_or p.place o)) (sym n.2) ∙ w.1 }
-
   -- what the grammar makes of the tokens from here on
   record Reads (before : List ReadStatement) (p : Pending) (g : Gathered) (shapes : List Shape) (mode : Mode) (whole : Pending) : Type 0 where
     says : ReadStatement
@@ -76,7 +52,7 @@ module _ (is_full : Bool) (selections : List (Option (List Name))) where
 
   -- the dot
   at_dot : (before : List ReadStatement) (mode : Mode) (p : Pending) (g : Gathered) (s : Shape) (line column : ℕ) (whole : Pending) → mode ≡ p.place.mode → ends_statement mode ≡ true
-      → Follows before p.place.mode p.place.brackets p g → Took p s line column whole → Reads before p g (s ∷ []) mode whole
+      → Follows before p.place.mode p.place.brackets p g → Took is_full selections p s line column whole → Reads before p g (s ∷ []) mode whole
   at_dot before ClauseClosed p g s line column whole is over h k =
       let there = ap (λ q. q.place) k.is in
       record {
@@ -106,9 +82,9 @@ module _ (is_full : Bool) (selections : List (Option (List Name))) where
   -- all tokens of the statement
   reads : (before : List ReadStatement) (tokens : List Written) (p : Pending) (g : Gathered) (mode : Mode) (whole : Pending) → Follows before p.place.mode p.place.brackets p g → TakesStatement is_full selections p tokens mode whole → Reads before p g (shapes_of tokens) mode whole
   reads before [] p g mode whole h t = absurd t
-  reads before (t ∷ []) p g mode whole h (is, over, takes) = at_dot before mode p g t.shape t.line t.column whole is over h (took p t.shape t.line t.column whole takes)
+  reads before (t ∷ []) p g mode whole h (is, over, takes) = at_dot before mode p g t.shape t.line t.column whole is over h (was_taken is_full selections p t.shape t.line t.column whole takes)
   reads before (t ∷ u ∷ more) p g mode whole h (within, q, takes, rest) =
-      let k = took p t.shape t.line t.column q takes in
+      let k = was_taken is_full selections p t.shape t.line t.column q takes in
       let there = ap (λ x. x.place) k.is in
       let added = add_at p.place.mode p.place.depth (is_outside_items p.place t.shape) p t.shape t.line t.column in
       let more_gathered = gather p.place t.shape g in

@@ -89,7 +89,7 @@ module _ (told : Option Table) (root : Option (List ℕ)) (name : List ℕ) (sel
     files = reached.files;
     whole = reached.whole;
     reading = λ other below.
-        reached.reading other (subst (λ n. SameBelow (2 * (n + 1)) reached.world other) stays.0 below)
+        reached.reading other (subst (λ n. SameBelow (2 * (n + 1)) reached.world other) stays.includes below)
         ∙ ap (λ r. and_then r (λ later. resume other root (drop 1 selections) later outer)) (goes (λ asked early. include_in other root (levels_in outer) (source_in selections file) asked early))
         ∙ ap (λ s. and_then (rest_of (λ asked early. include_in other root (levels_in outer) s asked early) selections after next) (λ later. resume other root (drop 1 selections) later outer)) (source_same selections file next same);
   }
@@ -101,7 +101,7 @@ module _ (told : Option Table) (root : Option (List ℕ)) (name : List ℕ) (sel
     files = reached.files;
     whole = reached.whole;
     reading = λ other below.
-        reached.reading other (subst (λ n. SameBelow (2 * (n + 1)) reached.world other) stays.0 below)
+        reached.reading other (subst (λ n. SameBelow (2 * (n + 1)) reached.world other) stays.includes below)
         ∙ ap (λ r. and_then r (λ later. resume other root (drop 1 selections) later outer)) (goes (λ asked early. include_in other root (levels_in outer) (source_in selections file) asked early));
   }
 
@@ -117,7 +117,7 @@ module _ (told : Option Table) (root : Option (List ℕ)) (name : List ℕ) (sel
         → reading_of other root name
         ≡ and_then (include_in other root (levels_in outer) (source_in selections next) asked after) (λ behind. resume other root selections behind (next ∷ outer))
     at_include other below =
-        reached.reading other (subst (λ n. SameBelow (2 * (n + 1)) reached.world other) stays.0 below)
+        reached.reading other (subst (λ n. SameBelow (2 * (n + 1)) reached.world other) stays.includes below)
         ∙ ap (λ r. and_then r (λ later. resume other root (drop 1 selections) later outer)) (goes.1 (λ early before. include_in other root (levels_in outer) (source_in selections file) early before))
         ∙ chain (include_in other root (levels_in outer) (source_in selections file) asked after) _ _
         ∙ ap (λ s. and_then (include_in other root (levels_in outer) s asked after) (λ behind. and_then (rest_of (λ early before. include_in other root (levels_in outer) s early before) selections behind next) (λ later. resume other root (drop 1 selections) later outer)))

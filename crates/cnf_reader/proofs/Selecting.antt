@@ -1,15 +1,18 @@
 -- A table of the names of a selection has a name exactly where the names have it.
-use Rattle.std.proofs.Common.{◌≡◌, ℕ, Bool, true, false, true≢false, cond, ◌||◌, ◌&&◌, List, [], ◌∷◌, ◌++◌, Contains, Option, Some, None, IsNone, ◌↔◌, is_some, refl, sym, ap, ◌∙◌, subst}
-use Rattle.std.specs.List.{list_any}
+use Rattle.std.proofs.Common.{◌≡◌, ℕ, IsUtf8, Bool, true, false, true≢false, cond, ◌||◌, ◌&&◌, List, [], ◌∷◌, ◌++◌, Contains, Option, Some, None, IsNone, ◌↔◌, is_some, refl, sym, ap, ◌∙◌, subst}
+use Rattle.std.specs.List.{list_all, list_any}
 use Rattle.std.specs.Str.{bytes_eq}
 use Rattle.std.proofs.lemmas.Slice.Eq.{bytes_eq-Decides}
+use Rattle.mg_word.specs.Facts.{is_name_byte}
 use Rattle.mg_word.specs.Table.{Symbol}
 use Rattle.mg_word.specs.SymbolLaws.{same_symbol, symbols_equal}
 use Rattle.mg_word.specs.declared.symbol.Kind.{Kind}
 use Rattle.mg_word.specs.declared.symbol.Kind.TheVariants.{Word, Integer, Distinct}
 use Rattle.mg_word.specs.declared.clause.Name.{Name}
+use Rattle.mg_word.proofs.NameTexts.{name_utf8}
 use Rattle.cnf_reader.specs.Faults.{same_kind, same_name}
 use Rattle.cnf_reader.specs.Keeping.{with_symbol}
+use Rattle.cnf_reader.specs.Sound.{AreNames}
 use Rattle.cnf_reader.specs.Selecting.{name_symbol, with_names, table_of}
 use Rattle.cnf_reader.proofs.Numbering.{has, contained, held_if}
 
@@ -112,3 +115,14 @@ some_if (Some id) table symbol none = by (has table symbol) refl
 -- what a look-up finds tells whether the names have the name
 pub looked_up : (names : List Name) (name : Name) (found : Option ℕ) (table : List Symbol) → table ≡ table_of names → IsNone found ↔ (Contains table (name_symbol name) → ⊥) → is_some found ≡ list_any (λ other. same_name other name) names
 looked_up names name found table is none = some_if found table (name_symbol name) none ∙ ap (λ t. has t (name_symbol name)) is ∙ table_has names name
+
+-- a name that is no text is none of names that are
+pub no_text_among : (names : List Name) (name : Name) → AreNames names → (IsUtf8 name.text → ⊥) → list_any (λ other. same_name other name) names ≡ false
+no_text_among [] name are none = refl
+no_text_among (other ∷ names) name are none =
+    let each = both (list_all is_name_byte other.text) (list_all (λ (one : Name). list_all is_name_byte one.text) names) are in
+    rw (apart (same_name other name) refl each.0) (no_text_among names name each.1 none)
+  where
+    apart : (test : Bool) → same_name other name ≡ test → list_all is_name_byte other.text ≡ true → same_name other name ≡ false
+    apart true same text = absurd (none (subst IsUtf8 ((bytes_eq-Decides other.text name.text).0 (both (same_kind other.kind name.kind) (bytes_eq other.text name.text) same).1) (name_utf8 other.text text)))
+    apart false same text = same

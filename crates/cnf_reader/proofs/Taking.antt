@@ -1,5 +1,5 @@
 -- How a token that is no fault moves the statement under way.
-use Rattle.std.proofs.Common.{◌≡◌, ℕ, ◌+◌, ◌≤◌, Bool, true, false, true≢false, List, Option, Some, None, refl, sym, ap, ◌∙◌, arith}
+use Rattle.std.proofs.Common.{◌≡◌, ℕ, ◌+◌, ◌≤◌, Bool, true, false, true≢false, List, Option, Some, None, Ok, refl, sym, ap, ◌∙◌, arith, if◌then◌else◌}
 use Rattle.std.proofs.lemmas.Bool.Decides.{nat_tests}
 use Rattle.mg_word.specs.declared.clause.Name.{Name}
 use Rattle.cnf_grammar.specs.declared.mode.Mode.{Mode}
@@ -10,10 +10,11 @@ use Rattle.cnf_grammar.specs.Shapes.{Shape}
 use Rattle.cnf_grammar.specs.Table.{step}
 use Rattle.cnf_grammar.specs.Moving.{Moves}
 use Rattle.cnf_grammar.specs.Items.{item_step}
-use Rattle.cnf_reader.specs.declared.fault.ReadKind.TheVariants.{BadConclude}
+use Rattle.cnf_reader.specs.declared.fault.ReadKind.{ReadKind}
+use Rattle.cnf_reader.specs.declared.fault.ReadKind.TheVariants.{BadConclude, TooDeep}
 use Rattle.cnf_reader.specs.declared.pending.Pending.{Pending}
 use Rattle.cnf_reader.specs.Faults.{limit_fault, is_too_deep}
-use Rattle.cnf_reader.specs.Statements.{take, fault_here, breaks_item, add_at, take_info, take_item, is_outside_items, Takes}
+use Rattle.cnf_reader.specs.Statements.{take, taken, fault_here, fault_before, breaks_item, add_at, with_token, place_or, take_info, take_item, is_outside_items, Takes}
 
 -- where the place moved, the table had that place
 pub moved_to : (found : Option Place) (moved : Bool) (old new : Place) → Moves found moved old new → moved ≡ true → found ≡ Some new
@@ -56,3 +57,33 @@ broke is_full selections p s line column new breaks = rw breaks refl
 -- brackets within the limit are few enough
 pub few_open : (next : Place) → next.level + next.depth ≤ 100 → is_too_deep next ≡ false
 few_open next few = grind (arith, nat_tests)
+
+-- what is known of a token that was taken
+pub record Took (is_full : Bool) (selections : List (Option (List Name))) (p : Pending) (s : Shape) (line column : ℕ) (q : Pending) : Type 0 where
+  pub next : Place
+  pub leads : step p.place s ≡ Some next
+  pub whole : breaks_item p.place.mode p s ≡ false
+  pub room : limit_fault is_full selections p.place.mode p.draft s ≡ None
+  pub is : with_token p s line column next ≡ q
+
+no_limit : (is_full : Bool) (selections : List (Option (List Name))) (p : Pending) (s : Shape) (deep : Bool) → (if deep then Some TooDeep else limit_fault is_full selections p.place.mode p.draft s) ≡ None → limit_fault is_full selections p.place.mode p.draft s ≡ None
+no_limit is_full selections p s true h = absurd cc
+no_limit is_full selections p s false h = h
+
+none_stands : (is_full : Bool) (selections : List (Option (List Name))) (p : Pending) (s : Shape) (breaks : Bool) (o : Option Place) → (if breaks then Some BadConclude else fault_before is_full selections p s o) ≡ None
+    → (breaks ≡ false) × (limit_fault is_full selections p.place.mode p.draft s ≡ None) × (next : Place) × (o ≡ Some next)
+none_stands is_full selections p s true o h = absurd cc
+none_stands is_full selections p s false None h = absurd cc
+none_stands is_full selections p s false (Some next) h = (refl, no_limit is_full selections p s (is_too_deep next) h, next, refl)
+
+no_fault_met : (p : Pending) (s : Shape) (line column : ℕ) (q : Pending) (fault : Option ReadKind) → taken fault p s line column ≡ Ok q → (fault ≡ None) × (with_token p s line column (place_or p.place (step p.place s)) ≡ q)
+no_fault_met p s line column q None e = (refl, cc)
+no_fault_met p s line column q (Some kind) e = absurd cc
+
+-- a token that was taken was no fault
+pub was_taken : (is_full : Bool) (selections : List (Option (List Name))) (p : Pending) (s : Shape) (line column : ℕ) (q : Pending) → take is_full selections p s line column ≡ Ok q → Took is_full selections p s line column q
+unfolding take
+was_taken is_full selections p s line column q e =
+    let w = no_fault_met p s line column q (fault_here is_full selections p s) e in
+    let n = none_stands is_full selections p s (breaks_item p.place.mode p s) (step p.place s) w.0 in
+    record { next = n.2; leads = n.3; whole = n.0; room = n.1; is = ap (λ o. with_token p s line column (place_or p.place o)) (sym n.3) ∙ w.1 }

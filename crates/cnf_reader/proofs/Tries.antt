@@ -1,9 +1,8 @@
 -- What a read answers is what some files, the told ones where files are told, give to a try.
-use Rattle.std.proofs.Common.{◌≡◌, ℕ, zero, suc, ◌<◌, ◌≤◌, true, false, List, [], ◌∷◌, ◌++◌, length, Option, Some, None, IfSome, refl, sym, ap, ◌∙◌, arith, subst, nat_le}
+use Rattle.std.proofs.Common.{◌≡◌, ℕ, zero, suc, ◌<◌, ◌≤◌, true, false, List, [], ◌∷◌, ◌++◌, length, Option, Some, None, IfSome, String, Global, string_bytes, refl, sym, ap, ◌∙◌, arith, subst, nat_le}
 use Rattle.std.proofs.lemmas.Bool.Decides.{nat_tests}
 use Rattle.std.specs.Option.{IsSomeAnd}
 use Rattle.std.specs.declared.vec.Vec.{Vec}
-use Rattle.std.specs.declared.alloc.Global.{Global}
 use Rattle.mg_outside.specs.Causes.{Rose}
 use Rattle.mg_outside.specs.Reading.{Table, TakesFile, IsAbsent, IsTooLong}
 use Rattle.cnf_reader.specs.declared.opening.Tried.TheVariants.{Opened as TriedOpened, Absent as TriedAbsent, TooLong as TriedTooLong, Failed as TriedFailed}
@@ -72,13 +71,13 @@ module _ (told : Option Table) (name : List ℕ) (limit : ℕ) (before now : Cou
   try_failed cause = let found = failing told in record { finding = found.0; gives = λ next. rw found.1 refl; counts = (found.1, cause); fits = tt }
 
 module _ (told : Option Table) (name : List ℕ) (more : List (List ℕ)) (limit : ℕ) (before now : Counts) where
-  pub open_opened : (bytes : Vec ℕ Global) → IsTry told name limit before now (TriedOpened bytes) → IsOpening told (name ∷ more) limit before now (Opened name bytes)
-  open_opened bytes tried =
+  pub open_opened : (text : String Global) (bytes : Vec ℕ Global) → name ≡ string_bytes text → IsTry told name limit before now (TriedOpened bytes) → IsOpening told (name ∷ more) limit before now (Opened text bytes)
+  open_opened text bytes named tried =
       let spare = nothing_found told in
       record {
         first = tried.finding;
         second = spare.0;
-        gives = λ number world finds. rw (finds.0, finds.1) (tried.gives (open_first world (suc number) limit more));
+        gives = λ number world finds. rw (finds.0, finds.1) (tried.gives (open_first world (suc number) limit more)) ∙ ap (λ n. opened n bytes.items) named;
         counts = (tried.counts, spare.1);
         fits = tried.fits;
       }
@@ -121,11 +120,11 @@ pub rose_later : (start before now : ℕ) → start ≤ before → Rose before n
 rose_later start before now later rose = omega arith
 
 module _ (told : Option Table) (name second : List ℕ) (limit : ℕ) (before middle now : Counts) (first_try : IsTry told name limit before middle TriedAbsent) where
-  pub second_opened : (bytes : Vec ℕ Global) → IsTry told second limit middle now (TriedOpened bytes) → IsOpening told (name ∷ second ∷ []) limit before now (Opened second bytes)
-  second_opened bytes tried = record {
+  pub second_opened : (text : String Global) (bytes : Vec ℕ Global) → second ≡ string_bytes text → IsTry told second limit middle now (TriedOpened bytes) → IsOpening told (name ∷ second ∷ []) limit before now (Opened text bytes)
+  second_opened text bytes named tried = record {
     first = first_try.finding;
     second = tried.finding;
-    gives = λ number world finds. rw (finds.0, finds.1, finds.2, finds.3) (first_try.gives _ ∙ tried.gives none_found);
+    gives = λ number world finds. rw (finds.0, finds.1, finds.2, finds.3) (first_try.gives _ ∙ tried.gives none_found) ∙ ap (λ n. opened n bytes.items) named;
     counts = (first_try.counts.0, tried.counts);
     fits = tried.fits;
   }

@@ -1,5 +1,5 @@
 -- How files are opened and taken in. No public clause cites this module.
-use Rattle.std.specs.Prelude.{◌≡◌, ℕ, ◌≤◌, Bool, false, List, [], ◌∷◌, length, Option, Err}
+use Rattle.std.specs.Prelude.{◌≡◌, ℕ, ◌+◌, ◌<◌, ◌≤◌, Bool, false, List, [], ◌∷◌, ◌++◌, length, Option, Err}
 use Rattle.mg_outside.specs.Reading.{Table}
 use Rattle.tptp_lexer.specs.Tokens.{start_cursor}
 use Rattle.cnf_grammar.specs.Table.{start}
@@ -9,7 +9,7 @@ use Rattle.cnf_reader.specs.declared.fault.ReadKind.{ReadKind}
 use Rattle.cnf_reader.specs.declared.fault.ReadKind.TheVariants.{Files}
 use Rattle.cnf_reader.specs.declared.kept.Kept.{Kept}
 use Rattle.cnf_reader.specs.declared.pending.Asked.{Asked}
-use Rattle.cnf_reader.specs.Reading.{World, with_file, Counts, HasRisen, most_bytes, opened, open_first, read_opened}
+use Rattle.cnf_reader.specs.Reading.{World, with_file, Counts, HasRisen, most_bytes, most_includes, opened, open_first, read_opened}
 use Rattle.cnf_reader.specs.Openings.{Finding, FindsTwo}
 use Rattle.cnf_reader.specs.Frames.{FileData, Refuses}
 
@@ -25,6 +25,16 @@ new_file name number bytes = record { name = name; number = number; bytes = byte
 -- the file is taken in
 abbrev pub IsAdmitted : Kept → List ℕ → List ℕ → Kept → FileData → Type 0
 IsAdmitted kept name bytes now file = (now ≡ with_file name bytes kept) × (file ≡ new_file name (length kept.files) bytes)
+
+-- a file was taken in: one more, which has the last number, and nothing else changed but the counts
+pub record IsTakenIn (kept now : Kept) (file : FileData) : Type 0 where
+  pub symbols : now.symbols ≡ kept.symbols
+  pub clauses : now.clauses ≡ kept.clauses
+  pub files : now.files ≡ kept.files ++ file.name ∷ []
+  pub bytes : now.bytes ≡ kept.bytes + length file.bytes
+  pub number : file.number < length now.files
+  pub few_files : length now.files ≤ now.includes + 1
+  pub few_includes : now.includes ≤ most_includes
 
 -- with a fault of any kind but Files no read failed
 abbrev pub IsWhole : ReadKind → Bool → Bool → Type 0

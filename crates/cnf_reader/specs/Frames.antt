@@ -1,5 +1,5 @@
 -- Files that are open, and what is still to be read of them. No public clause cites this module.
-use Rattle.std.specs.Prelude.{◌≡◌, false, true, ℕ, suc, ◌+◌, ◌-◌, ◌*◌, ◌<◌, ◌≤◌, List, [], ◌∷◌, length, drop, Option, Result, Ok, Err}
+use Rattle.std.specs.Prelude.{◌≡◌, false, true, ℕ, suc, ◌+◌, ◌-◌, ◌*◌, ◌<◌, ◌≤◌, List, [], ◌∷◌, length, drop, Option, Result, Ok, Err, string_bytes, All}
 use Rattle.mg_word.specs.declared.clause.Name.{Name}
 use Rattle.mg_outside.specs.Reading.{Table}
 use Rattle.tptp_lexer.specs.Tokens.{left_of, IsAt}
@@ -11,10 +11,12 @@ use Rattle.cnf_reader.specs.declared.pending.Asked.{Asked}
 use Rattle.cnf_reader.specs.declared.files.Step.{Step}
 use Rattle.cnf_reader.specs.declared.files.Step.TheVariants.{Ended, Clause, Include, Fault}
 use Rattle.cnf_reader.specs.declared.files.OpenFile.TheInside.{Inside}
+use Rattle.cnf_reader.specs.Led.{count_left, Spends}
+use Rattle.cnf_reader.specs.Sound.{IsSoundKept, AsksByName}
 use Rattle.cnf_reader.specs.Statements.{fresh}
-use Rattle.cnf_reader.specs.Reading.{Source, World, and_then, fault_at, include_in, reading_of, NeverFails, AreTold}
+use Rattle.cnf_reader.specs.Reading.{Source, World, most_bytes, most_includes, and_then, fault_at, include_in, reading_of, NeverFails, AreTold}
 use Rattle.cnf_reader.specs.Openings.{Finding, FindsTwo}
-use Rattle.cnf_reader.specs.Parts.{is_of_text, Lower, reads_on, source_named, IsOpen}
+use Rattle.cnf_reader.specs.Parts.{is_of_text, Lower, reads_on, source_named, IsBetween}
 
 -- a file that is open
 pub record FileData : Type 0 where
@@ -25,13 +27,13 @@ pub record FileData : Type 0 where
   pub place : Place
 
 abbrev pub file_seen : Inside → FileData
-file_seen f = record { name = f.name; number = f.number; bytes = f.bytes.items; cursor = f.cursor; place = f.place }
+file_seen f = record { name = string_bytes f.name; number = f.number; bytes = f.bytes.items; cursor = f.cursor; place = f.place }
 
 -- what holds of each file that is open
 pub record IsFileOpen (f : Inside) : Type 0 where
   pub small : length f.bytes.items ≤ 16777216
   pub at : IsAt f.bytes.items f.cursor
-  pub few : IsOpen f.place
+  pub between : IsBetween f.place
 
 -- the file under these selections
 abbrev pub source_in : List (Option (List Name)) → FileData → Source
@@ -52,6 +54,31 @@ Advances selections kept f Clause after g = IsSame f g × ((lower : Lower) → r
 Advances selections kept f (Include asked) after g =
     IsSame f g × ((lower : Lower) → rest_of lower selections kept f ≡ and_then (lower asked after) (λ behind. rest_of lower selections behind g))
 Advances selections kept f (Fault kind line column) after g = IsSame f g × (is_of_text kind ≡ true) × ((lower : Lower) → rest_of lower selections kept f ≡ fault_at kind f.name line column)
+
+-- how many tokens of the file are left
+abbrev pub left_in : FileData → ℕ
+left_in f = count_left f.bytes f.cursor
+
+-- how many tokens of open files are left
+abbrev pub left_in_all : List FileData → ℕ
+left_in_all [] = 0
+left_in_all (f ∷ outer) = left_in f + left_in_all outer
+
+-- the same as of a part, of what was read of a file
+abbrev pub IsPaidStep : Step → Kept → ℕ → Kept → ℕ → Type 0
+IsPaidStep Ended kept all after left = after ≡ kept
+IsPaidStep Clause kept all after left = Spends kept all after left
+IsPaidStep (Include asked) kept all after left = Spends kept all after left × AsksByName 16777216 asked
+IsPaidStep (Fault kind line column) kept all after left = Unit {0}
+
+-- what is kept of files that are open has its facts: each new symbol was paid by a token, and each file is numbered
+pub record IsSoundRun (kept : Kept) (files : List FileData) : Type 0 where
+  pub sound : IsSoundKept kept
+  pub room : length kept.symbols + left_in_all files ≤ kept.bytes
+  pub bytes : kept.bytes ≤ most_bytes
+  pub numbers : All (λ f. f.number < length kept.files) files
+  pub few_files : length kept.files ≤ kept.includes + 1
+  pub few_includes : kept.includes ≤ most_includes
 
 -- how many levels are left below a file that stands in so many others
 abbrev pub levels_in : List FileData → ℕ

@@ -8,7 +8,11 @@ pub mod Parts
 pub mod Openings
 pub mod Frames
 pub mod Entering
-pub mod Checks
 pub mod Bounds
 pub mod Selecting
 pub mod Meanings
+pub mod Files
+pub mod Stops
+pub mod Sound
+pub mod Limits
+pub mod Led

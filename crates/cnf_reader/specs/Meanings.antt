@@ -35,6 +35,12 @@ TakesStatement is_full selections p (t ∷ []) mode whole =
 TakesStatement is_full selections p (t ∷ u ∷ more) mode whole =
     (ends_statement p.place.mode ≡ false) × (next : Pending) × (take is_full selections p t.shape t.line t.column ≡ Ok next) × TakesStatement is_full selections next (u ∷ more) mode whole
 
+-- the tokens are taken without a fault, none of them ends a statement, and they lead to `q`
+abbrev pub TakesFront : Bool → List (Option (List Name)) → Pending → List Written → Pending → Type 0
+TakesFront is_full selections p [] q = p ≡ q
+TakesFront is_full selections p (t ∷ more) q =
+    (ends_statement p.place.mode ≡ false) × (next : Pending) × (take is_full selections p t.shape t.line t.column ≡ Ok next) × TakesFront is_full selections next more q
+
 -- a name, as the grammar has it
 abbrev pub name_seen : Name → Named
 name_seen name = record { kind = kind_seen name.kind; text = name.text }

@@ -1,12 +1,18 @@
 -- What tries to read files find. No public clause cites this module.
-use Rattle.std.specs.Prelude.{◌≡◌, ℕ, suc, ◌≤◌, Bool, true, false, List, length, Option, None, Some}
+use Rattle.std.specs.Prelude.{◌≡◌, ℕ, suc, ◌≤◌, Bool, true, false, List, ◌∷◌, map, length, Option, None, Some, string_bytes}
+use Rattle.std.specs.Option.{option_to_list}
 use Rattle.mg_outside.specs.Causes.{Rose}
 use Rattle.mg_outside.specs.Reading.{Table}
+use Rattle.cnf_reader.specs.declared.names.Tries.{Tries}
 use Rattle.cnf_reader.specs.declared.opening.Tried.{Tried}
 use Rattle.cnf_reader.specs.declared.opening.Tried.TheVariants.{Opened as TriedOpened, Absent as TriedAbsent, TooLong as TriedTooLong, Failed as TriedFailed}
 use Rattle.cnf_reader.specs.declared.opening.Found.{Found}
 use Rattle.cnf_reader.specs.declared.opening.Found.TheVariants.{Opened, Absent, TooLong, Failed}
 use Rattle.cnf_reader.specs.Reading.{World, Opening, opened, none_found, too_long, read_failed, open_first, by_read, Counts}
+
+-- the names to try, in order
+abbrev pub names_tried : Tries → List (List ℕ)
+names_tried tries = string_bytes tries.first ∷ map string_bytes (option_to_list tries.second)
 
 -- the files are those that are told, where they are told
 abbrev pub IsTold : Option Table → Table → Type 0
@@ -49,7 +55,7 @@ pub record IsTry (told : Option Table) (name : List ℕ) (limit : ℕ) (before n
 
 -- what comes of tries
 abbrev pub found_seen : Found → Opening
-found_seen (Opened name bytes) = opened name bytes.items
+found_seen (Opened name bytes) = opened (string_bytes name) bytes.items
 found_seen Absent = none_found
 found_seen TooLong = too_long
 found_seen Failed = read_failed

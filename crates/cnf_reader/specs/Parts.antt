@@ -3,6 +3,7 @@ use Rattle.std.specs.Prelude.{◌≡◌, ℕ, ◌+◌, ◌≤◌, Bool, true, fa
 use Rattle.mg_word.specs.declared.clause.Name.{Name}
 use Rattle.tptp_lexer.specs.Tokens.{Lexed}
 use Rattle.tptp_lexer.specs.Spots.{spot_at}
+use Rattle.cnf_grammar.specs.declared.mode.Mode.TheVariants.{Statement}
 use Rattle.cnf_grammar.specs.declared.place.Place.{Place}
 use Rattle.cnf_grammar.specs.Table.{is_end}
 use Rattle.cnf_reader.specs.declared.fault.ReadKind.{ReadKind}
@@ -32,9 +33,16 @@ reads_on lower source pending kept left = read_tokens lower source pending kept 
 abbrev pub IsOpen : Place → Type 0
 IsOpen p = p.level + p.depth ≤ 100
 
+-- it is a place between statements
+pub record IsBetween (p : Place) : Type 0 where
+  pub few : IsOpen p
+  pub mode : p.mode ≡ Statement
+
 -- no include and no file is new
-abbrev pub Stays : Kept → Kept → Type 0
-Stays kept after = (after.includes ≡ kept.includes) × (after.bytes ≡ kept.bytes)
+pub record Stays (kept after : Kept) : Type 0 where
+  pub includes : after.includes ≡ kept.includes
+  pub bytes : after.bytes ≡ kept.bytes
+  pub files : after.files ≡ kept.files
 
 -- whether faults of this kind stand at tokens of a file, and not at its opening
 abbrev pub is_of_text : ReadKind → Bool
@@ -49,9 +57,9 @@ abbrev pub PartIs : ℕ → List ℕ → List (Option (List Name)) → Pending �
 PartIs number bytes selections p kept left Ended after more =
     (lower : Lower) (name : List ℕ) → reads_on lower (source_named number bytes selections name) p kept left ≡ Ok after
 PartIs number bytes selections p kept left (Clause next) after more =
-    IsOpen next × ((lower : Lower) (name : List ℕ) → reads_on lower (source_named number bytes selections name) p kept left ≡ reads_on lower (source_named number bytes selections name) (fresh next) after more)
+    IsBetween next × ((lower : Lower) (name : List ℕ) → reads_on lower (source_named number bytes selections name) p kept left ≡ reads_on lower (source_named number bytes selections name) (fresh next) after more)
 PartIs number bytes selections p kept left (Include next asked) after more =
-    IsOpen next × ((lower : Lower) (name : List ℕ) → reads_on lower (source_named number bytes selections name) p kept left
+    IsBetween next × ((lower : Lower) (name : List ℕ) → reads_on lower (source_named number bytes selections name) p kept left
     ≡ and_then (lower asked after) (λ behind. reads_on lower (source_named number bytes selections name) (fresh next) behind more))
 PartIs number bytes selections p kept left (Fault kind line column) after more =
     (is_of_text kind ≡ true) × ((lower : Lower) (name : List ℕ) → reads_on lower (source_named number bytes selections name) p kept left ≡ fault_at kind name line column)

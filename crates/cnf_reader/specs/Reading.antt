@@ -197,6 +197,10 @@ pub record Counts : Type 0 where
   pub absences : ℕ
   pub overruns : ℕ
 
+-- these three counts of files
+abbrev pub counts_of : {F : Type 0} → (F → ℕ) → (F → ℕ) → (F → ℕ) → F → Counts
+counts_of faults absences overruns files = record { faults = faults files; absences = absences files; overruns = overruns files }
+
 -- which count has risen with a fault of this kind
 abbrev pub HasRisen : ReadKind → Counts → Counts → Type 0
 HasRisen Files before now = Rose before.faults now.faults

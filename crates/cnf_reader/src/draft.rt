@@ -1,9 +1,11 @@
 //! The literals of the clause under way, as its tokens leave them.
 
-ghost use Rattle.std.specs.Prelude.{◌≡◌, ◌<◌, [], IfOk, OnErr, true, false, Bool, map, length, zero, suc};
+ghost use Rattle.std.specs.Prelude.{◌≡◌, ◌<◌, ◌≤◌, [], All, IfOk, OnErr, true, false, Bool, map, length, zero};
 ghost use Rattle.cnf_grammar.specs.Draft as drafts;
 ghost use Rattle.cnf_reader.specs.Drafts.{kind_seen, text_seen, item_seen, literal_seen};
 ghost use Rattle.cnf_reader.specs.Faults.{lacks_room, has_word};
+ghost use Rattle.cnf_reader.specs.Limits.{IsRoomy};
+ghost use Rattle.cnf_reader.specs.Sound.{HasFew};
 ghost use Rattle.cnf_grammar.specs.Meaning as meaning;
 ghost use Rattle.cnf_grammar.specs.Seen.{seen};
 
@@ -127,22 +129,23 @@ impl<'a> ClauseDraft<'a> {
 
     /// The word at the end opens its arguments, and the first begins.
     pub fn first_argument(&mut self) -> Result<(), NoMemory>
+        requires { IsRoomy self.old }
         ensures { IfOk result (λ _. self.new ≡ drafts.first_argument self.old) }
     {
         let place = self.atom.len().saturating_sub(1);
-        add_argument(&mut self.atom, place)?;
+        add_argument(&mut self.atom, place);
         self.open_words.push(place)?;
         Ok(())
     }
 
     /// A further argument of the innermost open word begins.
-    pub fn next_argument(&mut self) -> Result<(), NoMemory>
-        ensures { IfOk result (λ _. self.new ≡ drafts.next_argument self.old) }
+    pub fn next_argument(&mut self)
+        requires { IsRoomy self.old }
+        ensures { self.new ≡ drafts.next_argument self.old }
     {
         if let Some(place) = self.open_words.last().copied() {
-            add_argument(&mut self.atom, place)?;
+            add_argument(&mut self.atom, place);
         }
-        Ok(())
     }
 
     /// The innermost open word closes its arguments.
@@ -154,6 +157,7 @@ impl<'a> ClauseDraft<'a> {
 
     /// Reads a variable.
     pub fn push_variable(&mut self, text: &[u8]) -> Result<(), NoMemory>
+        requires { IsRoomy self.old }
         ensures { IfOk result (λ _. self.new ≡ drafts.push_variable text.now self.old) }
     {
         let index = number_variable(&mut self.variables, text)?;
@@ -202,6 +206,7 @@ impl<'a> ClauseDraft<'a> {
 
     /// What the token, read with this mode and so many brackets of arguments open, adds.
     pub fn collect(&mut self, mode: Mode, depth: u32, token: &Lexeme<'a>) -> Result<(), NoMemory>
+        requires { IsRoomy self.old }
         ensures { IfOk result (λ _. self.new ≡ drafts.collect_at mode depth (seen token.now) self.old) }
     {
         match mode {
@@ -231,6 +236,7 @@ impl<'a> ClauseDraft<'a> {
 
     // Where a term must begin.
     fn begin_term(&mut self, token: &Lexeme<'a>) -> Result<(), NoMemory>
+        requires { IsRoomy self.old }
         ensures { IfOk result (λ _. self.new ≡ drafts.begin_term (seen token.now) self.old) }
     {
         match token.kind {
@@ -245,20 +251,23 @@ impl<'a> ClauseDraft<'a> {
 
     // Behind a term or an atom.
     fn end_term(&mut self, depth: u32, token: &Lexeme<'a>) -> Result<(), NoMemory>
+        requires { IsRoomy self.old }
         ensures { IfOk result (λ _. self.new ≡ drafts.end_term depth (seen token.now) self.old) }
     {
         if depth == 0 {
             return self.finish();
         }
         if token.is_mark(b',') {
-            return self.next_argument();
+            self.next_argument();
+        } else {
+            self.close_arguments();
         }
-        self.close_arguments();
         Ok(())
     }
 
     // Behind a word.
     fn end_word(&mut self, depth: u32, token: &Lexeme<'a>) -> Result<(), NoMemory>
+        requires { IsRoomy self.old }
         ensures { IfOk result (λ _. self.new ≡ drafts.end_word depth (seen token.now) self.old) }
     {
         if token.is_mark(b'(') {
@@ -298,10 +307,11 @@ fn variable_index(variables: &[Text], text: &[u8]) -> usize
 
 // The number of the variable, which is added where it is new.
 fn number_variable(variables: &mut Items<Text>, text: &[u8]) -> Result<u32, NoMemory>
+    requires { length variables.old ≤ 32 }
     ensures { IfOk result (λ index. (variables.new ≡ drafts.with_variable variables.old text.now) × (index ≡ meaning.index_of (drafts.with_variable variables.old text.now) text.now)) }
 {
     let index = variable_index(variables.as_slice(), text);
-    let number = counted(index)?;
+    let number = index as u32;
     if index < variables.as_slice().len() {
         return Ok(number);
     }
@@ -310,36 +320,16 @@ fn number_variable(variables: &mut Items<Text>, text: &[u8]) -> Result<u32, NoMe
     Ok(number)
 }
 
-// One more argument of the symbol at this place. More arguments than a number counts do not fit memory.
-fn add_argument(items: &mut Vec<RawItem>, place: usize) -> Result<(), NoMemory>
-    ensures { IfOk result (λ _. map item_seen items.new.items ≡ drafts.add_argument place (map item_seen items.old.items)) }
+// One more argument of the symbol at this place.
+fn add_argument(items: &mut Vec<RawItem>, place: usize)
+    requires { All (HasFew 4294967294) (map item_seen items.old.items) }
+    ensures { map item_seen items.new.items ≡ drafts.add_argument place (map item_seen items.old.items) }
 {
     if place >= items.len() {
-        return Ok(());
+        return;
     }
     if let RawItem::Symbol(symbol) = items[place] {
-        let arity = one_more(symbol.arity)?;
+        let arity = symbol.arity + 1;
         items[place] = RawItem::Symbol(RawSymbol { arity, ..symbol });
     }
-    Ok(())
-}
-
-// The number, where it fits its type; more do not fit memory.
-fn counted(number: usize) -> Result<u32, NoMemory>
-    ensures { IfOk result (λ counted. counted ≡ number) }
-{
-    if number > u32::MAX as usize {
-        return Err(NoMemory);
-    }
-    Ok(number as u32)
-}
-
-// The next number, where it fits its type; more do not fit memory.
-fn one_more(number: u32) -> Result<u32, NoMemory>
-    ensures { IfOk result (λ more. more ≡ suc number) }
-{
-    if number == u32::MAX {
-        return Err(NoMemory);
-    }
-    Ok(number + 1)
 }

@@ -1,9 +1,13 @@
 //! The opening of a problem's files: the first, and those that are included.
 
-ghost use Rattle.std.specs.Prelude.{◌≡◌, ◌≤◌, ◌<◌, ◌∷◌, [], IfOk, MatchResult, None, length};
+ghost use Rattle.std.specs.Prelude.{◌≡◌, ◌≤◌, ◌+◌, ◌∷◌, [], IfOk, IsTrue, MatchResult, length, string_bytes};
+ghost use Rattle.std.specs.List.{list_all};
 ghost use Rattle.std.specs.Option.{option_map};
-ghost use Rattle.cnf_reader.specs.Entering.{FaultIs, IsNotEntered, IsBegun, IsNotBegun, IsAdmitted};
+ghost use Rattle.mg_word.specs.Facts.{is_name_byte};
+ghost use Rattle.cnf_reader.specs.Entering.{FaultIs, IsNotEntered, IsBegun, IsNotBegun, IsAdmitted, IsTakenIn};
 ghost use Rattle.cnf_reader.specs.Frames.{Enters};
+ghost use Rattle.cnf_reader.specs.Openings.{names_tried};
+ghost use Rattle.cnf_reader.specs.Reading.{counts_of, nothing_kept};
 
 use crate::fault::{ReadFault, ReadKind};
 use crate::files::OpenFile;
@@ -14,6 +18,7 @@ use crate::pending::Asked;
 use mg_outside::Files;
 use mg_word::{NoMemory, Text};
 use std::alloc::Global;
+use std::str::from_utf8;
 
 /// The most bytes of all files of a problem together.
 const MOST_BYTES: u64 = 16_777_216;
@@ -22,14 +27,14 @@ const MOST_BYTES: u64 = 16_777_216;
 pub fn fault_at(
     alloc: Global,
     kind: ReadKind,
-    file: &[u8],
+    file: &str,
     line: u32,
     column: u32,
     subject: &[u8],
 ) -> ReadFault
     ensures { FaultIs kind file.now line column subject.now result }
 {
-    match copies(alloc, file, subject) {
+    match copies(alloc, file.as_bytes(), subject) {
         Err(NoMemory) => ReadFault::NoMemory,
         Ok((file, subject)) => ReadFault::At {
             kind,
@@ -50,19 +55,31 @@ fn copies(alloc: Global, first: &[u8], second: &[u8]) -> Result<(Text, Text), No
     Ok((first, second))
 }
 
-// Takes in a file that was opened. More files than a number counts do not fit memory.
-fn admit(alloc: Global, kept: &mut Kept, name: Text, bytes: Vec<u8>) -> Result<OpenFile, NoMemory>
+// A fault at an include, which stands in this file.
+fn fault_at_include(
+    alloc: Global,
+    kind: ReadKind,
+    file: &OpenFile,
+    asked: &Asked,
+    subject: &[u8],
+) -> ReadFault
+    ensures { FaultIs kind file.now.name asked.now.line asked.now.column subject.now result }
+{
+    fault_at(alloc, kind, file.name(), asked.line, asked.column, subject)
+}
+
+// Takes in a file that was opened.
+fn admit(alloc: Global, kept: &mut Kept, name: String, bytes: Vec<u8>) -> Result<OpenFile, NoMemory>
     requires small { length bytes.items ≤ 16777216 }
     requires few { kept.old.bytes ≤ 16777216 }
-    ensures { IfOk result (λ file. IsAdmitted kept.old name bytes.items kept.new file) }
+    requires count { length kept.old.files ≤ 4294967295 }
+    ensures { IfOk result (λ file. IsAdmitted kept.old (string_bytes name) bytes.items kept.new file) }
 {
-    let number = kept.files.as_slice().len();
-    if number > u32::MAX as usize {
-        return Err(NoMemory);
-    }
-    kept.files.push(name.copy()?)?;
+    let number = kept.files.as_slice().len() as u32;
+    let listed = Text::new(Vec::from_slice(alloc, name.as_bytes())?);
+    kept.files.push(listed)?;
     kept.bytes += bytes.len() as u64;
-    Ok(OpenFile::new(alloc, name, number as u32, bytes))
+    Ok(OpenFile::new(alloc, name, number, bytes))
 }
 
 /// Opens the file that an include asks for, which stands in a file that so many others are open
@@ -76,7 +93,9 @@ pub fn enter<F: Files>(
     depth: usize,
     asked: &Asked,
 ) -> Result<OpenFile, ReadFault>
-    requires { kept.old.bytes ≤ 16777216 }
+    requires small { kept.old.bytes ≤ 16777216 }
+    requires files { length kept.old.files ≤ kept.old.includes + 1 }
+    requires asked { IsTrue (list_all is_name_byte asked.now.file) }
     ensures same { F.table files.new ≡ F.table files.old }
     ensures faults { F.faults files.old ≤ F.faults files.new }
     ensures absences { F.absences files.old ≤ F.absences files.new }
@@ -84,69 +103,43 @@ pub fn enter<F: Files>(
     ensures entered { MatchResult result
         (λ inner. Enters (F.table files.old) (option_map (λ r. r.now) root.entry) kept.old file.now depth asked.now kept.new inner)
         (λ fault. IsNotEntered (F.table files.old) (option_map (λ r. r.now) root.entry) kept.old file.now depth asked.now
-        (record { faults = F.faults files.old; absences = F.absences files.old; overruns = F.overruns files.old })
-        (record { faults = F.faults files.new; absences = F.absences files.new; overruns = F.overruns files.new }) fault) }
+        (counts_of F.faults F.absences F.overruns files.old)
+        (counts_of F.faults F.absences F.overruns files.new) fault) }
+    ensures taken { IfOk result (IsTakenIn kept.old kept.new) }
 {
     if kept.includes >= 256 {
-        return Err(fault_at(
-            alloc,
-            ReadKind::TooManyIncludes,
-            file.name(),
-            asked.line,
-            asked.column,
-            &[],
-        ));
+        return Err(fault_at_include(alloc, ReadKind::TooManyIncludes, file, asked, &[]));
     }
     if depth >= 15 {
-        return Err(fault_at(
-            alloc,
-            ReadKind::IncludeDepth,
-            file.name(),
-            asked.line,
-            asked.column,
-            &[],
-        ));
+        return Err(fault_at_include(alloc, ReadKind::IncludeDepth, file, asked, &[]));
     }
-    let tries = make_tries(alloc, root, file.name(), asked.file.as_slice())?;
+    let Ok(wanted) = from_utf8(asked.file.as_slice()) else {
+        unreachable!()
+    };
+    let tries = make_tries(alloc, root, file.name(), wanted)?;
     match open(alloc, files, tries, MOST_BYTES - kept.bytes)? {
         Found::Opened(name, bytes) => {
             kept.includes += 1;
             Ok(admit(alloc, kept, name, bytes)?)
         }
-        Found::Absent => Err(fault_at(
+        Found::Absent => Err(fault_at_include(
             alloc,
             ReadKind::IncludeAbsent,
-            file.name(),
-            asked.line,
-            asked.column,
+            file,
+            asked,
             asked.file.as_slice(),
         )),
-        Found::TooLong => Err(fault_at(
-            alloc,
-            ReadKind::TooLong,
-            file.name(),
-            asked.line,
-            asked.column,
-            &[],
-        )),
-        Found::Failed => Err(fault_at(
-            alloc,
-            ReadKind::Files,
-            file.name(),
-            asked.line,
-            asked.column,
-            &[],
-        )),
+        Found::TooLong => Err(fault_at_include(alloc, ReadKind::TooLong, file, asked, &[])),
+        Found::Failed => Err(fault_at_include(alloc, ReadKind::Files, file, asked, &[])),
     }
 }
 
 // This name alone.
 fn only(alloc: Global, name: &str) -> Result<Tries, NoMemory>
-    ensures { IfOk result (λ tries. tries ≡ record { first = name.now; second = None }) }
+    ensures { IfOk result (λ tries. names_tried tries ≡ name.now ∷ []) }
 {
-    let first = Text::new(Vec::from_slice(alloc, name.as_bytes())?);
     Ok(Tries {
-        first,
+        first: String::from_str(alloc, name)?,
         second: None,
     })
 }
@@ -158,7 +151,7 @@ pub fn begin<F: Files>(
     kept: &mut Kept,
     name: &str,
 ) -> Result<OpenFile, ReadFault>
-    requires { kept.old.bytes ≡ 0 }
+    requires { kept.old ≡ nothing_kept }
     ensures same { F.table files.new ≡ F.table files.old }
     ensures faults { F.faults files.old ≤ F.faults files.new }
     ensures absences { F.absences files.old ≤ F.absences files.new }
@@ -166,14 +159,15 @@ pub fn begin<F: Files>(
     ensures begun { MatchResult result
         (λ inner. IsBegun (F.table files.old) name.now kept.old kept.new inner)
         (λ fault. IsNotBegun (F.table files.old) name.now
-        (record { faults = F.faults files.old; absences = F.absences files.old; overruns = F.overruns files.old })
-        (record { faults = F.faults files.new; absences = F.absences files.new; overruns = F.overruns files.new }) fault) }
+        (counts_of F.faults F.absences F.overruns files.old)
+        (counts_of F.faults F.absences F.overruns files.new) fault) }
+    ensures taken { IfOk result (IsTakenIn kept.old kept.new) }
 {
     let tries = only(alloc, name)?;
     match open(alloc, files, tries, MOST_BYTES)? {
         Found::Opened(name, bytes) => Ok(admit(alloc, kept, name, bytes)?),
-        Found::Absent => Err(fault_at(alloc, ReadKind::ProblemAbsent, name.as_bytes(), 1, 1, &[])),
-        Found::TooLong => Err(fault_at(alloc, ReadKind::TooLong, name.as_bytes(), 1, 1, &[])),
-        Found::Failed => Err(fault_at(alloc, ReadKind::Files, name.as_bytes(), 1, 1, &[])),
+        Found::Absent => Err(fault_at(alloc, ReadKind::ProblemAbsent, name, 1, 1, &[])),
+        Found::TooLong => Err(fault_at(alloc, ReadKind::TooLong, name, 1, 1, &[])),
+        Found::Failed => Err(fault_at(alloc, ReadKind::Files, name, 1, 1, &[])),
     }
 }

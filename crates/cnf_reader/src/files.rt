@@ -1,8 +1,9 @@
 //! Files that are open: how far each was read.
 
-ghost use Rattle.std.specs.Prelude.{◌≡◌, ◌∷◌, ◌≤◌, [], IfOk, OnOk, MatchOption, length};
-ghost use Rattle.cnf_reader.specs.Frames.{Advances};
+ghost use Rattle.std.specs.Prelude.{◌≡◌, ◌∷◌, ◌≤◌, [], IfOk, OnOk, MatchOption, length, string_bytes, ◌<◌, ◌+◌};
+ghost use Rattle.cnf_reader.specs.Frames.{Advances, IsPaidStep, left_in};
 ghost use Rattle.cnf_reader.specs.Parts.{Stays};
+ghost use Rattle.cnf_reader.specs.Sound.{IsSoundKept};
 ghost use Rattle.tptp_lexer.specs.Tokens.{start_cursor};
 ghost use Rattle.cnf_grammar.specs.Table.{start};
 
@@ -12,7 +13,7 @@ use crate::part::{Part, read_part};
 use crate::pending::Asked;
 use crate::selections::Selections;
 use cnf_grammar::Place;
-use mg_word::{NoMemory, Text};
+use mg_word::NoMemory;
 use std::alloc::Global;
 use std::marker::Model;
 use tptp_lexer::Cursor;
@@ -21,7 +22,7 @@ use tptp_lexer::Cursor;
 /// in the grammar behind the statements that were read.
 #[derive(Drop)]
 pub struct OpenFile {
-    name: Text,
+    name: String,
     number: u32,
     bytes: Vec<u8>,
     cursor: Cursor,
@@ -53,9 +54,9 @@ pub enum Step {
 
 impl OpenFile {
     /// The file of this name and number, of which nothing was read.
-    pub fn new(alloc: Global, name: Text, number: u32, bytes: Vec<u8>) -> OpenFile
+    pub fn new(alloc: Global, name: String, number: u32, bytes: Vec<u8>) -> OpenFile
         requires { length bytes.items ≤ 16777216 }
-        ensures { result ≡ record { name = name; number = number; bytes = bytes.items; cursor = start_cursor; place = start } }
+        ensures { result ≡ record { name = string_bytes name; number = number; bytes = bytes.items; cursor = start_cursor; place = start } }
     {
         OpenFile {
             name,
@@ -67,10 +68,10 @@ impl OpenFile {
     }
 
     /// The name under which it was read.
-    pub fn name(&self) -> &[u8]
+    pub fn name(&self) -> &str
         ensures { result.now ≡ self.now.name }
     {
-        self.name.as_slice()
+        self.name.as_str()
     }
 
     /// Reads one statement, and keeps it if it is a clause.
@@ -80,7 +81,12 @@ impl OpenFile {
         selections: &Selections,
         kept: &mut Kept,
     ) -> Result<(Step, OpenFile), NoMemory>
+        requires sound { IsSoundKept kept.old }
+        requires file { self.number < length kept.old.files }
+        requires room { length kept.old.symbols + left_in self ≤ 16777216 }
         ensures stays { OnOk result (Stays kept.old kept.new) }
+        ensures sound { OnOk result (IsSoundKept kept.new) }
+        ensures paid { IfOk result (λ made. IsPaidStep made.0 kept.old (left_in self) kept.new (left_in made.1)) }
         ensures advances { IfOk result (λ made. Advances selections.now kept.old self made.0 kept.new made.1) }
     {
         let OpenFile {

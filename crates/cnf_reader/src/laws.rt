@@ -1,7 +1,7 @@
-//! That reading is a function of the files, and that a statement is read as what it means. The functions do nothing: each is
-//! called for what it ensures.
+//! That reading is a function of the files, and that a statement, and so a file, is read as what it means. The functions do
+//! nothing: each is called for what it ensures.
 
-ghost use Rattle.std.specs.Prelude.{◌≡◌, ◌⊎◌, ℕ, Bool, List, Option, Some};
+ghost use Rattle.std.specs.Prelude.{◌≡◌, ◌⊎◌, ℕ, Bool, List, Option, Some, Result, Ok, Err};
 ghost use Rattle.mg_word.specs.declared.clause.Name.{Name};
 ghost use Rattle.cnf_grammar.specs.declared.mode.Mode.{Mode};
 ghost use Rattle.cnf_grammar.specs.declared.mode.Mode.TheVariants.{Statement};
@@ -9,10 +9,14 @@ ghost use Rattle.cnf_grammar.specs.declared.place.Place.{Place};
 ghost use Rattle.mg_word.specs.Facts.{InputData};
 ghost use Rattle.mg_outside.specs.Reading.{Table};
 ghost use Rattle.cnf_reader.specs.declared.fault.ReadFault.{ReadFault};
+ghost use Rattle.cnf_reader.specs.declared.kept.Kept.{Kept};
+ghost use Rattle.cnf_reader.specs.declared.pending.Asked.{Asked};
 ghost use Rattle.cnf_reader.specs.declared.pending.Pending.{Pending};
-ghost use Rattle.cnf_reader.specs.Reading.{Reads, StandsFirst, IsReadSome};
+ghost use Rattle.cnf_reader.specs.Reading.{Source, Reads, StandsFirst, IsReadSome, read_source};
 ghost use Rattle.cnf_reader.specs.Statements.{fresh};
 ghost use Rattle.cnf_reader.specs.Meanings.{Written, TakesStatement, HoldsItsMeaning};
+ghost use Rattle.cnf_reader.specs.Files.{IsReadAsSaid};
+ghost use Rattle.cnf_reader.specs.Stops.{Stop};
 
 use cnf_grammar::{each_file_leaves_its_meaning, only_files_are_accepted};
 
@@ -35,3 +39,19 @@ pub fn each_statement_holds_its_meaning()
     only_files_are_accepted();
     each_file_leaves_its_meaning();
 }
+
+/// Wherever a file reads without a fault, one tree of the grammar spells its tokens, up to its end,
+/// and what is kept is what the statements of the tree say one after another: of a clause itself,
+/// numbered, with the place of its first token, where the selections have its name; of an include
+/// all that its file reads as, under the names that it selects.
+pub fn each_file_is_read_as_its_statements()
+    ensures { (lower : Asked → Kept → Result Kept ReadFault) (source : Source) (kept after : Kept) → read_source lower source kept ≡ Ok after → IsReadAsSaid lower source kept after }
+{}
+
+/// A fault of a file stands at one of its tokens, at its end, or in the file of an include. Where it
+/// is that a token is not expected, the tokens before it are the front of some file, and with it
+/// they are not; where it is that a limit is passed, they still are. What is kept at an include is
+/// what the statements before it say.
+pub fn faults_stand_where_the_grammar_stops()
+    ensures { (lower : Asked → Kept → Result Kept ReadFault) (source : Source) (kept : Kept) (fault : ReadFault) → read_source lower source kept ≡ Err fault → Stop lower source kept fault }
+{}

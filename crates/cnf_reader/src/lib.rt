@@ -1,13 +1,12 @@
 //! The reader of problems: from the bytes of files to clauses, or to the first fault.
 #![tactic(auto)]
 
-mod bounds;
 mod draft;
 mod end;
 mod enter;
-mod facts;
 mod fault;
 mod files;
+mod keep;
 mod kept;
 mod laws;
 mod names;
@@ -22,5 +21,8 @@ mod tests;
 mod text;
 
 pub use fault::{ReadFault, ReadKind};
-pub use laws::{each_statement_holds_its_meaning, files_read_as_one_thing};
+pub use laws::{
+    each_file_is_read_as_its_statements, each_statement_holds_its_meaning,
+    faults_stand_where_the_grammar_stops, files_read_as_one_thing,
+};
 pub use reading::read_problem;

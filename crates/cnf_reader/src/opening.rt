@@ -1,15 +1,13 @@
 //! The opening of files: tries of names, one after the other.
 
-ghost use Rattle.std.specs.Prelude.{◌≡◌, ◌∷◌, ◌≤◌, ◌<◌, ◌^◌, ◌-◌, [], IfOk, length};
-ghost use Rattle.std.specs.Option.{option_to_list};
-ghost use Rattle.cnf_reader.specs.Openings.{IsTry, IsOpening};
-ghost use Rattle.cnf_reader.specs.Reading.{Counts};
+ghost use Rattle.std.specs.Prelude.{◌≡◌, ◌≤◌, IfOk};
+ghost use Rattle.cnf_reader.specs.Openings.{IsTry, IsOpening, names_tried};
+ghost use Rattle.cnf_reader.specs.Reading.{counts_of};
 
 use crate::names::Tries;
 use mg_outside::{Files, ReadAnswer};
-use mg_word::{NoMemory, Text};
+use mg_word::NoMemory;
 use std::alloc::Global;
-use std::str::from_utf8;
 
 /// What comes of one try.
 #[derive(Drop)]
@@ -25,14 +23,14 @@ pub enum Tried {
 #[derive(Drop)]
 pub enum Found {
     /// The name and the bytes of the file.
-    Opened(Text, Vec<u8>),
+    Opened(String, Vec<u8>),
     Absent,
     TooLong,
     Failed,
 }
 
-/// Tries to read the file of this name, of at most so many bytes.
-pub fn try_name<F: Files>(
+// Tries to read the file of this name, of at most so many bytes.
+fn try_name<F: Files>(
     alloc: Global,
     files: &mut F,
     name: &str,
@@ -43,8 +41,8 @@ pub fn try_name<F: Files>(
     ensures absences { F.absences files.old ≤ F.absences files.new }
     ensures overruns { F.overruns files.old ≤ F.overruns files.new }
     ensures tried { IfOk result (λ tried. IsTry (F.table files.old) name.now limit
-        (record { faults = F.faults files.old; absences = F.absences files.old; overruns = F.overruns files.old })
-        (record { faults = F.faults files.new; absences = F.absences files.new; overruns = F.overruns files.new }) tried) }
+        (counts_of F.faults F.absences F.overruns files.old)
+        (counts_of F.faults F.absences F.overruns files.new) tried) }
 {
     let mut bytes = Vec::new(alloc);
     match files.read(name, limit, &mut bytes) {
@@ -54,27 +52,6 @@ pub fn try_name<F: Files>(
         ReadAnswer::Failed => Ok(Tried::Failed),
         ReadAnswer::NoMemory => Err(NoMemory),
     }
-}
-
-// The same for a name as bytes. Names are those of UTF-8 texts, cut at slashes.
-fn try_bytes<F: Files>(
-    alloc: Global,
-    files: &mut F,
-    name: &Text,
-    limit: u64,
-) -> Result<Tried, NoMemory>
-    ensures same { F.table files.new ≡ F.table files.old }
-    ensures faults { F.faults files.old ≤ F.faults files.new }
-    ensures absences { F.absences files.old ≤ F.absences files.new }
-    ensures overruns { F.overruns files.old ≤ F.overruns files.new }
-    ensures tried { IfOk result (λ tried. IsTry (F.table files.old) name.now limit
-        (record { faults = F.faults files.old; absences = F.absences files.old; overruns = F.overruns files.old })
-        (record { faults = F.faults files.new; absences = F.absences files.new; overruns = F.overruns files.new }) tried) }
-{
-    let Ok(name) = from_utf8(name.as_slice()) else {
-        return Err(NoMemory);
-    };
-    try_name(alloc, files, name, limit)
 }
 
 /// Tries the names in order: the second only where the first is absent.
@@ -88,12 +65,12 @@ pub fn open<F: Files>(
     ensures faults { F.faults files.old ≤ F.faults files.new }
     ensures absences { F.absences files.old ≤ F.absences files.new }
     ensures overruns { F.overruns files.old ≤ F.overruns files.new }
-    ensures opened { IfOk result (λ found. IsOpening (F.table files.old) (tries.first ∷ option_to_list tries.second) limit
-        (record { faults = F.faults files.old; absences = F.absences files.old; overruns = F.overruns files.old })
-        (record { faults = F.faults files.new; absences = F.absences files.new; overruns = F.overruns files.new }) found) }
+    ensures opened { IfOk result (λ found. IsOpening (F.table files.old) (names_tried tries) limit
+        (counts_of F.faults F.absences F.overruns files.old)
+        (counts_of F.faults F.absences F.overruns files.new) found) }
 {
     let Tries { first, second } = tries;
-    match try_bytes(alloc, files, &first, limit)? {
+    match try_name(alloc, files, first.as_str(), limit)? {
         Tried::Opened(bytes) => return Ok(Found::Opened(first, bytes)),
         Tried::Absent => {}
         Tried::TooLong => return Ok(Found::TooLong),
@@ -102,7 +79,7 @@ pub fn open<F: Files>(
     let Some(second) = second else {
         return Ok(Found::Absent);
     };
-    match try_bytes(alloc, files, &second, limit)? {
+    match try_name(alloc, files, second.as_str(), limit)? {
         Tried::Opened(bytes) => Ok(Found::Opened(second, bytes)),
         Tried::Absent => Ok(Found::Absent),
         Tried::TooLong => Ok(Found::TooLong),

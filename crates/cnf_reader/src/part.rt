@@ -1,20 +1,22 @@
 //! One statement of a file, from its first token to its dot.
 
-ghost use Rattle.std.specs.Prelude.{◌≡◌, ◌+◌, ◌≤◌, length, IfOk, OnOk};
+ghost use Rattle.std.specs.Prelude.{◌≡◌, ◌+◌, ◌<◌, ◌≤◌, length, IfOk, OnOk};
 ghost use Rattle.tptp_lexer.specs.Tokens.{left_of, IsAt};
 ghost use Rattle.cnf_grammar.specs.Seen.{seen};
-ghost use Rattle.cnf_reader.specs.Keeping.{keep as kept_with, is_full};
-ghost use Rattle.cnf_reader.specs.Parts.{IsPart, IsEnd, Stays};
+ghost use Rattle.cnf_reader.specs.Keeping.{is_full};
+ghost use Rattle.cnf_reader.specs.Led.{count_left, IsPaid};
+ghost use Rattle.cnf_reader.specs.Parts.{IsBetween, IsPart, IsEnd, Stays};
+ghost use Rattle.cnf_reader.specs.Sound.{IsSoundKept};
 ghost use Rattle.cnf_reader.specs.declared.part.Part.TheVariants.{Include};
 
 use crate::end::end_of;
 use crate::fault::ReadKind;
+use crate::keep::keep;
 use crate::kept::Kept;
-use crate::numbers::number_literals;
 use crate::pending::{Asked, Pending};
 use crate::selections::Selections;
 use cnf_grammar::{Lexeme, Mode, Place};
-use mg_word::{Clause, Items, NoMemory, Place as ClausePlace};
+use mg_word::NoMemory;
 use std::alloc::Global;
 use tptp_lexer::{Cursor, next_token};
 
@@ -29,49 +31,6 @@ pub enum Part {
     Include(Place, Asked),
     /// A fault at this line and column.
     Fault(ReadKind, u32, u32),
-}
-
-// Keeps the clause of the statement, where each selection has its name, and gives back the place.
-#[tactic(auto, unfolding(crate::specs::Keeping::keep))]
-fn keep(
-    alloc: Global,
-    selections: &Selections,
-    kept: &mut Kept,
-    number: u32,
-    pending: Pending,
-) -> Result<Place, NoMemory>
-    ensures kept { IfOk result (λ place. (place ≡ pending.entry.place) × (kept.new ≡ kept_with selections.now kept.old number pending.entry)) }
-    ensures stays { OnOk result (Stays kept.old kept.new) }
-{
-    let Pending {
-        place,
-        line,
-        column,
-        name,
-        draft,
-        words: _,
-        item: _,
-        chosen: _,
-        conclude,
-        asked: _,
-    } = pending;
-    if !selections.have(&name)? {
-        return Ok(place);
-    }
-    let literals = number_literals(alloc, &mut kept.symbols, draft.literals())?;
-    let clause = Clause {
-        name,
-        place: ClausePlace {
-            file: number,
-            line,
-            column,
-        },
-        literals: Items::new(literals),
-        variables: draft.into_variables(),
-        conclude,
-    };
-    kept.clauses.push(clause)?;
-    Ok(place)
 }
 
 // What the end of the tokens is at this place.
@@ -100,14 +59,19 @@ pub fn read_part(
 ) -> Result<Part, NoMemory>
     requires small { length bytes.now ≤ 16777216 }
     requires at { IsAt bytes.now cursor.old }
-    requires open { place.level + place.depth ≤ 100 }
+    requires between { IsBetween place }
+    requires sound { IsSoundKept kept.old }
+    requires file { number < length kept.old.files }
+    requires room { length kept.old.symbols + count_left bytes.now cursor.old ≤ 16777216 }
     ensures at { IsAt bytes.now cursor.new }
     ensures stays { OnOk result (Stays kept.old kept.new) }
+    ensures sound { OnOk result (IsSoundKept kept.new) }
+    ensures paid { IfOk result (λ part. IsPaid part kept.old (count_left bytes.now cursor.old) kept.new (count_left bytes.now cursor.new)) }
     ensures part { IfOk result (λ part. IsPart number bytes.now selections.now place kept.old (left_of bytes.now cursor.old) part kept.new (left_of bytes.now cursor.new)) }
 {
     let is_full = kept.clauses.as_slice().len() >= 20000;
     let mut pending = Pending::fresh(alloc, place);
-    for _ in 0..u64::MAX {
+    loop {
         let found = match next_token(bytes, cursor) {
             Ok(found) => found,
             Err(fault) => {
@@ -143,7 +107,6 @@ pub fn read_part(
             _ => {}
         }
     }
-    Err(NoMemory)
 }
 
 // The include of the statement, and the place behind it.

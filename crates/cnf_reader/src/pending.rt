@@ -1,9 +1,10 @@
 //! A statement under way, and what each of its tokens adds.
 
-ghost use Rattle.std.specs.Prelude.{◌≡◌, ◌+◌, ◌≤◌, IfOk};
+ghost use Rattle.std.specs.Prelude.{◌≡◌, ◌+◌, ◌≤◌, IfOk, length};
 ghost use Rattle.cnf_grammar.specs.Seen.{seen};
 ghost use Rattle.cnf_grammar.specs.Items.{item_step};
 ghost use Rattle.cnf_reader.specs.Faults as faults;
+ghost use Rattle.cnf_reader.specs.Limits.{IsRoomyPending};
 ghost use Rattle.cnf_reader.specs.Statements as statements;
 ghost use Rattle.cnf_reader.specs.Statements.{Takes, IfNoFault};
 
@@ -92,14 +93,15 @@ impl<'a> Pending<'a> {
         line: u32,
         column: u32,
     ) -> Result<Option<ReadKind>, NoMemory>
-        requires { self.old.place.level + self.old.place.depth ≤ 100 }
+        requires open { self.old.place.level + self.old.place.depth ≤ 100 }
+        requires within { IsRoomyPending self.old }
         ensures taken { IfOk result (λ fault. Takes (statements.take is_full selections.now self.old (seen token.now) line column) fault self.new) }
         ensures open { IfOk result (λ fault. IfNoFault fault (self.new.place.level + self.new.place.depth ≤ 100)) }
     {
         let mode = self.place.mode;
         let depth = self.place.depth;
         let is_outside = self.is_outside_items(token);
-        if self.breaks_item(mode, is_outside, token)? {
+        if self.breaks_item(mode, is_outside, token) {
             return Ok(Some(ReadKind::BadConclude));
         }
         if !self.place.advance(token.kind, token.text, token.plain)? {
@@ -123,29 +125,23 @@ impl<'a> Pending<'a> {
     }
 
     // Where the token leads in an item of the info.
-    fn next_item(&self, token: &Lexeme) -> Result<Option<ItemPlace>, NoMemory>
-        ensures { IfOk result (λ item. item ≡ item_step self.now.words self.now.item (seen token.now)) }
+    fn next_item(&self, token: &Lexeme) -> Option<ItemPlace>
+        requires { length self.now.words ≤ 64 }
+        ensures { result ≡ item_step self.now.words self.now.item (seen token.now) }
     {
         let words = self.words.as_slice();
-        if words.len() > u32::MAX as usize {
-            return Err(NoMemory);
-        }
-        Ok(self.item.step(words, token.kind, token.text, token.plain))
+        self.item.step(words, token.kind, token.text, token.plain)
     }
 
     // Whether the token breaks a conclude item.
-    fn breaks_item(&self, mode: Mode, is_outside: bool, token: &Lexeme) -> Result<bool, NoMemory>
-        requires { is_outside ≡ statements.is_outside_items self.now.place (seen token.now) }
-        ensures { IfOk result (λ breaks. breaks ≡ statements.breaks_item mode self.now (seen token.now)) }
+    fn breaks_item(&self, mode: Mode, is_outside: bool, token: &Lexeme) -> bool
+        requires outside { is_outside ≡ statements.is_outside_items self.now.place (seen token.now) }
+        requires few { length self.now.words ≤ 64 }
+        ensures { result ≡ statements.breaks_item mode self.now (seen token.now) }
     {
         match mode {
-            Mode::Info => {
-                if is_outside {
-                    return Ok(false);
-                }
-                Ok(self.next_item(token)?.is_none())
-            }
-            _ => Ok(false),
+            Mode::Info => !is_outside && self.next_item(token).is_none(),
+            _ => false,
         }
     }
 
@@ -185,6 +181,7 @@ impl<'a> Pending<'a> {
         line: u32,
         column: u32,
     ) -> Result<(), NoMemory>
+        requires { IsRoomyPending self.old }
         ensures { IfOk result (λ _. self.new ≡ statements.add_at mode depth is_outside self.old (seen token.now) line column) }
     {
         match mode {
@@ -222,12 +219,13 @@ impl<'a> Pending<'a> {
 
     // A token of the info.
     fn take_info(&mut self, alloc: Global, is_outside: bool, token: &Lexeme) -> Result<(), NoMemory>
+        requires { length self.old.words ≤ 64 }
         ensures { IfOk result (λ _. self.new ≡ statements.take_info is_outside self.old (seen token.now)) }
     {
         if is_outside {
             return self.end_item(alloc);
         }
-        if let Some(item) = self.next_item(token)? {
+        if let Some(item) = self.next_item(token) {
             self.item = item;
             if let ItemPlace::NumberRead(number) = item {
                 self.chosen.push(number)?;

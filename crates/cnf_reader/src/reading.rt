@@ -1,20 +1,21 @@
 //! The reading of a problem from its files.
 
-ghost use Rattle.std.specs.Prelude.{◌≡◌, ◌≤◌, ◌∷◌, OnOk, IfOk, MatchResult};
+ghost use Rattle.std.specs.Prelude.{◌≡◌, ◌≤◌, ◌∷◌, OnOk, IfOk, MatchResult, Some, length};
 ghost use Rattle.std.specs.Option.{option_map};
-ghost use Rattle.cnf_reader.specs.Reading.{Reads, IsFault, nothing_kept};
+ghost use Rattle.cnf_reader.specs.Reading.{Reads, IsFault, counts_of, nothing_kept};
 ghost use Rattle.cnf_reader.specs.Bounds.{IsBounded};
 ghost use Rattle.cnf_reader.specs.Frames.{ReadsKept};
+ghost use Rattle.cnf_reader.specs.Keeping.{input_of};
+ghost use Rattle.cnf_reader.specs.Sound.{IsSoundKept, AreFewNames};
 
 use crate::enter::{begin, enter, fault_at};
-use crate::facts::make_input;
 use crate::fault::ReadFault;
 use crate::files::{OpenFile, OpenFiles, Step};
 use crate::kept::Kept;
 use crate::pending::Asked;
 use crate::selections::Selections;
 use mg_outside::Files;
-use mg_word::{Input, Items, Name, NoMemory, Symbols};
+use mg_word::{Input, Items, NoMemory, Symbols};
 use std::alloc::Global;
 
 // Nothing is kept yet.
@@ -30,15 +31,22 @@ fn make_kept(alloc: Global) -> Result<Kept, NoMemory>
     })
 }
 
-// Leaves a file open around another, which is read under these names too.
+// Leaves a file open around another, which is read under the names that are asked for too.
 fn go_in(
     selections: &mut Selections,
     outer: &mut OpenFiles,
-    names: Option<Items<Name>>,
+    asked: Asked,
     file: OpenFile,
 ) -> Result<(), NoMemory>
-    ensures { OnOk result ((selections.new ≡ names ∷ selections.old) × (outer.new ≡ file ∷ outer.old)) }
+    requires { AreFewNames 16777216 asked.names }
+    ensures { OnOk result ((selections.new ≡ asked.names ∷ selections.old) × (outer.new ≡ file ∷ outer.old)) }
 {
+    let Asked {
+        file: _,
+        line: _,
+        column: _,
+        names,
+    } = asked;
     selections.push(names)?;
     outer.push(file)?;
     Ok(())
@@ -58,8 +66,9 @@ fn read_files<F: Files>(
     ensures read { MatchResult result
         (λ kept. ReadsKept (F.table files.old) name.now (option_map (λ r. r.now) root.entry) kept)
         (λ fault. IsFault (F.table files.old) name.now (option_map (λ r. r.now) root.entry)
-        (record { faults = F.faults files.old; absences = F.absences files.old; overruns = F.overruns files.old })
-        (record { faults = F.faults files.new; absences = F.absences files.new; overruns = F.overruns files.new }) fault) }
+        (counts_of F.faults F.absences F.overruns files.old)
+        (counts_of F.faults F.absences F.overruns files.new) fault) }
+    ensures sound { IfOk result (λ kept. IsSoundKept kept × (length kept.symbols ≤ 16777216)) }
 {
     let mut kept = make_kept(alloc)?;
     let mut file = match begin(alloc, files, &mut kept, name) {
@@ -69,7 +78,7 @@ fn read_files<F: Files>(
     let mut outer = OpenFiles::empty(alloc);
     let mut selections = Selections::empty(alloc);
     selections.push(None)?;
-    for _ in 0..u64::MAX {
+    'statements: loop {
         let (step, next) = file.read(alloc, &selections, &mut kept)?;
         match step {
             Step::Ended => {
@@ -89,15 +98,7 @@ fn read_files<F: Files>(
                     Ok(inner) => inner,
                     Err(fault) => return Err(fault),
                 };
-                let Asked {
-                    file: _,
-                    line: _,
-                    column: _,
-                    names,
-                } = asked;
-                let Ok(()) = go_in(&mut selections, &mut outer, names, next) else {
-                    return Err(ReadFault::NoMemory);
-                };
+                go_in(&mut selections, &mut outer, asked, next)?;
                 file = inner;
                 continue;
             }
@@ -106,7 +107,27 @@ fn read_files<F: Files>(
             }
         }
     }
-    Err(ReadFault::NoMemory)
+}
+
+// The input of what is kept.
+fn make_input(kept: Kept) -> Input
+    requires sound { IsSoundKept kept }
+    requires few { length kept.symbols ≤ 16777216 }
+    ensures input { result ≡ input_of kept }
+    ensures bounded { IsBounded result }
+{
+    let Kept {
+        symbols,
+        files,
+        clauses,
+        includes: _,
+        bytes: _,
+    } = kept;
+    Input {
+        symbols,
+        files,
+        clauses,
+    }
 }
 
 /// Reads a problem from its file and the files that it includes. A name that an include has is tried
@@ -126,11 +147,11 @@ pub fn read_problem<F: Files>(
     ensures read { MatchResult result
         (λ input. Reads (F.table files.old) name.now (option_map (λ r. r.now) root.entry) input)
         (λ fault. IsFault (F.table files.old) name.now (option_map (λ r. r.now) root.entry)
-        (record { faults = F.faults files.old; absences = F.absences files.old; overruns = F.overruns files.old })
-        (record { faults = F.faults files.new; absences = F.absences files.new; overruns = F.overruns files.new }) fault) }
+        (counts_of F.faults F.absences F.overruns files.old)
+        (counts_of F.faults F.absences F.overruns files.new) fault) }
 {
     match read_files(alloc, files, name, root) {
-        Ok(kept) => Ok(make_input(kept)?),
+        Ok(kept) => Ok(make_input(kept)),
         Err(fault) => Err(fault),
     }
 }

@@ -1,9 +1,10 @@
 //! The selections under which a file is read.
 
-ghost use Rattle.std.specs.Prelude.{◌≡◌, ◌∷◌, [], IfOk, OnOk, drop};
+ghost use Rattle.std.specs.Prelude.{◌≡◌, ◌∷◌, [], IfOk, OnOk, Some, drop};
 ghost use Rattle.std.specs.List.{list_any};
 ghost use Rattle.cnf_reader.specs.Faults.{same_name, selects, is_selected};
 ghost use Rattle.cnf_reader.specs.Selecting.{table_of};
+ghost use Rattle.cnf_reader.specs.Sound.{AreFewNames};
 
 use crate::numbers::intern;
 use mg_word::{Items, Name, NoMemory, Symbols};
@@ -23,42 +24,46 @@ impl Model for Selected {
     ghost use Rattle.std.specs.Prelude.{◌≡◌, List};
     ghost use Rattle.mg_word.specs.declared.clause.Name.{Name};
     ghost use Rattle.cnf_reader.specs.Selecting.{table_of};
+    ghost use Rattle.cnf_reader.specs.Sound.{AreNames};
 
     ghost Value = { List Name };
 
     ghost view = { λ s. s.names };
 
-    ghost invariant = { λ s. s.table ≡ table_of s.names };
+    ghost invariant = { λ s. (s.table ≡ table_of s.names) × AreNames s.names };
 }
 
 impl Selected {
     // The selection of these names.
     fn new(alloc: Global, names: Items<Name>) -> Result<Selected, NoMemory>
+        requires { AreFewNames 16777216 (Some names) }
         ensures { IfOk result (λ selected. selected ≡ names) }
     {
         let table = make_table(alloc, names.as_slice())?;
         Ok(Selected { names, table })
     }
 
-    // Whether the name is one of them. Names are ASCII.
+    // Whether the name is one of them. All of them are texts.
     fn has(&self, name: &Name) -> Result<bool, NoMemory>
         ensures { IfOk result (λ has. has ≡ list_any (λ other. same_name other name.now) self.now) }
     {
+        let table = &self.table;
         let Ok(text) = from_utf8(name.text.as_slice()) else {
-            return Err(NoMemory);
+            return Ok(false);
         };
-        let found = self.table.find(text, 0, name.kind)?;
+        let found = table.find(text, 0, name.kind)?;
         Ok(found.is_some())
     }
 }
 
 // The table of the names.
 fn make_table(alloc: Global, names: &[Name]) -> Result<Symbols, NoMemory>
+    requires { AreFewNames 16777216 (Some names.now) }
     ensures { IfOk result (λ table. table ≡ table_of names.now) }
 {
     let mut table = Symbols::new(alloc)?;
     for name in names {
-        intern(&mut table, name.text.as_slice(), 0, name.kind)?;
+        let _number = intern(&mut table, name.text.as_slice(), 0, name.kind)?;
     }
     Ok(table)
 }
@@ -91,6 +96,7 @@ impl Selections {
 
     /// Opens a file with this selection.
     pub fn push(&mut self, names: Option<Items<Name>>) -> Result<(), NoMemory>
+        requires { AreFewNames 16777216 names }
         ensures { OnOk result (self.new ≡ names ∷ self.old) }
     {
         let list = make_list(*self.lists.allocator(), names)?;
@@ -122,6 +128,7 @@ impl Selections {
 
 // The selection of these names, where an include has a list of them.
 fn make_list(alloc: Global, names: Option<Items<Name>>) -> Result<Option<Selected>, NoMemory>
+    requires { AreFewNames 16777216 names }
     ensures { IfOk result (λ list. list ≡ names) }
 {
     match names {

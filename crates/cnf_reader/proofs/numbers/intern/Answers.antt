@@ -1,6 +1,10 @@
 use Rattle.cnf_reader.proofs.Numbering.{interned}
+use Rattle.mg_word.proofs.NameTexts.{name_utf8}
 use Rattle.mg_word.specs.Table.{symbol_of}
 use Rattle.cnf_reader.proofs.numbers.intern.Goals as goal
+
+pub unreachable-requires : goal.unreachable-requires
+unreachable-requires c = c.in_default.ensures.cases.0 (name_utf8 c.args.name.now c.requires.ascii)
 
 pub returns : goal.returns
 returns c =

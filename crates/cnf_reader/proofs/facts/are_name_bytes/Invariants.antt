@@ -1,7 +1,0 @@
-use Rattle.std.proofs.Common.{◌≡◌, drop}
-use Rattle.std.specs.List.{list_all}
-use Rattle.mg_word.specs.Facts as facts
-use Rattle.cnf_reader.proofs.facts.are_name_bytes.Given as goal
-
-abbrev pub invariant-loop-byte : goal.invariant-loop-byte
-invariant-loop-byte l = list_all facts.is_name_byte (drop l.byte-index l.bytes) ≡ list_all facts.is_name_byte l.bytes
