@@ -7,6 +7,7 @@ use Rattle.std.proofs.lemmas.Grind.{flat_map-append}
 use Rattle.mg_outside.specs.Causes.{Rose}
 use Rattle.mg_outside.specs.Putting.{Gained, TookFront}
 
+-- what is gained in two puts is gained in one
 pub Gained-append : (a b c : Option (List ℕ)) (xs ys : List ℕ) → Gained a b xs → Gained b c ys → Gained a c (xs ++ ys)
 Gained-append None None None xs ys first second = tt
 Gained-append None None (Some z) xs ys first second = second
@@ -15,6 +16,7 @@ Gained-append (Some x) None c xs ys first second = absurd first
 Gained-append (Some x) (Some y) None xs ys first second = second
 Gained-append (Some x) (Some y) (Some z) xs ys first second = second ∙ (ap (λ l. l ++ ys) first ∙ append_assoc x xs ys)
 
+-- a whole put, and then the front of a piece, are the front of all that was to be put
 pub TookFront-append : (a b c : Option (List ℕ)) (xs piece rest : List ℕ) → Gained a b xs → TookFront b c piece → TookFront a c (xs ++ (piece ++ rest))
 TookFront-append a b c xs piece rest first second =
     let short : take second.count (piece ++ rest) ≡ take second.count piece = take-append-le second.count piece rest second.within in

@@ -7,5 +7,6 @@ use Rattle.command_line.specs.Answers.{memory_status}
 name_line : (name : List ℕ) → ((name ++ []) ++ 10 ∷ []) ++ [] ≡ name ++ ((10 ∷ []) ++ [])
 name_line name = append-nil ((name ++ []) ++ 10 ∷ []) ∙ ap (λ bytes. bytes ++ 10 ∷ []) (append-nil name)
 
+-- the status line is what its three pieces have together
 pub memory_text : (name : List ℕ) → text_of (memory_status (Some name)) ≡ codes "% SZS status MemoryOut for " ++ (name ++ ((10 ∷ []) ++ []))
 memory_text name = ap (λ bytes. codes "% SZS status MemoryOut for " ++ bytes) (name_line name)

@@ -37,6 +37,7 @@ whole (byte ∷ path) none =
     second true b is = absurd (true≢false is)
     second false b is = is
 
+-- a path without strokes is its own last part
 pub whole_is_last : (path : List ℕ) → ((i : ℕ) → i < length path → get_or path i 0 ≢ 47) → last_part path ≡ path
 whole_is_last path none = whole path (no_strokes path none)
 

@@ -102,7 +102,7 @@ HasCause (Forms file) told before now TreeFailed = ⊥
 HasCause (Forms file) told before now (TreeUnread line kind) = ⊥
 HasCause (Forms file) told before now (Rejected line why) = ⊥
 HasCause (Forms file) told before now Accepted = ⊥
-HasCause (Forms file) told before now (Formed problem) = IsProblemOf told file problem
+HasCause (Forms file) told before now (Formed problem) = IsTheProblemOf told file problem
 HasCause (Forms file) told before now MemoryOut = Unit {0}
 
 -- the tree's file that a command names

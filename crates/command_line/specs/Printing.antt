@@ -13,6 +13,10 @@ pub record SinkSeen : Type 0 where
   pub held : Option (List ℕ)
   pub faults : ℕ
 
+-- what a sink tells and counts
+abbrev pub sink_seen : {S : Type 0} → (S → Option (List ℕ)) → (S → ℕ) → S → SinkSeen
+sink_seen held faults sink = record { held = held sink; faults = faults sink }
+
 -- nothing was put
 pub record IsUntouched (before now : SinkSeen) : Type 0 where
   pub held : now.held ≡ before.held

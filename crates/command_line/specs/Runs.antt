@@ -1,5 +1,5 @@
 -- What a run is: the main statement on the top call.
-use Rattle.std.specs.Prelude.{ℕ, List, [], Option, ◌⊎◌}
+use Rattle.std.specs.Prelude.{◌≡◌, ℕ, List, [], Option, ◌⊎◌}
 use Rattle.mg_outside.specs.Reading.{Table}
 use Rattle.cnf_reader.specs.Reading.{Counts}
 use Rattle.command_line.specs.Asking.{Request, Asks}
@@ -16,13 +16,18 @@ pub record Outside : Type 0 where
   pub out : SinkSeen
   pub err : SinkSeen
 
+-- what these files, this output and these messages tell and count
+abbrev pub outside_of : {F O E : Type 0} → (F → Option Table) → (F → Counts) → (O → SinkSeen) → (E → SinkSeen) → F → O → E → Outside
+outside_of table counts output messages files out err = record { told = table files; counts = counts files; out = output out; err = messages err }
+
 -- the usage is put, or that memory ran out
 abbrev pub IsRefusedPrint : SinkSeen → SinkSeen → SinkSeen → SinkSeen → ℕ → Type 0
 IsRefusedPrint out out' err err' status = Printed out out' err err' [] usage_lines 2 status ⊎ Printed out out' err err' [] memory_lines 4 status
 
--- the words ask for no command
+-- the words ask for no command, and no read is counted
 pub record IsRefused (words : List (List ℕ)) (before now : Outside) (status : ℕ) : Type 0 where
   pub nothing : AsksNothing words
+  pub unread : now.counts ≡ before.counts
   pub printed : IsRefusedPrint before.out now.out before.err now.err status
 
 -- the words ask for a command, its answer has its cause, and its lines are put

@@ -2,6 +2,7 @@
 
 ghost use Rattle.std.specs.Prelude.{◌≡◌, ◌≤◌, MatchResult};
 ghost use Rattle.mg_outside.specs.Causes.{Rose};
+ghost use Rattle.cnf_reader.specs.Reading.{counts_of};
 ghost use Rattle.command_line.specs.Answers.{HasCause, IsTheProblemOf};
 ghost use Rattle.command_line.specs.Parts.{IsProblemTrouble, IsTextAnswer, IsTreeAnswer};
 ghost use Rattle.command_line.specs.Requests.{seen};
@@ -24,8 +25,8 @@ fn problem_of<F: Files>(alloc: Global, files: &mut F, file: &str) -> Result<Prob
     ensures formed { MatchResult result
         (λ problem. IsTheProblemOf (F.table files.old) file.now problem)
         (λ answer. IsProblemTrouble (F.table files.old) file.now
-        (record { faults = F.faults files.old; absences = F.absences files.old; overruns = F.overruns files.old })
-        (record { faults = F.faults files.new; absences = F.absences files.new; overruns = F.overruns files.new }) answer) }
+        (counts_of F.faults F.absences F.overruns files.old)
+        (counts_of F.faults F.absences F.overruns files.new) answer) }
 {
     let input = match read_problem(alloc, files, file, None) {
         Ok(input) => input,
@@ -59,8 +60,8 @@ fn check_text(alloc: Global, problem: &Problem, text: &[u8]) -> Answer
 fn check_tree<F: Files>(alloc: Global, files: &mut F, tree: &str, problem: &Problem) -> Answer
     ensures same { F.table files.new ≡ F.table files.old }
     ensures answer { IsTreeAnswer (F.table files.old) tree.now
-        (record { faults = F.faults files.old; absences = F.absences files.old; overruns = F.overruns files.old })
-        (record { faults = F.faults files.new; absences = F.absences files.new; overruns = F.overruns files.new }) problem.now result }
+        (counts_of F.faults F.absences F.overruns files.old)
+        (counts_of F.faults F.absences F.overruns files.new) problem.now result }
 {
     let mut text = Vec::new(alloc);
     match files.read(tree, u64::MAX, &mut text) {
@@ -76,8 +77,8 @@ fn check_tree<F: Files>(alloc: Global, files: &mut F, tree: &str, problem: &Prob
 pub fn answer_of<F: Files>(alloc: Global, files: &mut F, request: Request<'_>) -> Answer
     ensures same { F.table files.new ≡ F.table files.old }
     ensures cause { HasCause (seen request.entry) (F.table files.old)
-        (record { faults = F.faults files.old; absences = F.absences files.old; overruns = F.overruns files.old })
-        (record { faults = F.faults files.new; absences = F.absences files.new; overruns = F.overruns files.new }) result }
+        (counts_of F.faults F.absences F.overruns files.old)
+        (counts_of F.faults F.absences F.overruns files.new) result }
 {
     match request {
         Request::Check { file, tree } => match problem_of(alloc, files, file) {

@@ -4,6 +4,8 @@
 mod answer;
 mod answering;
 mod putting;
+#[cfg(test)]
+mod report_tests;
 mod reporting;
 mod request;
 mod szs_report;

@@ -7,7 +7,7 @@ ghost use Rattle.mg_outside.specs.Putting.{Gained, TookFront, OnAllPut, OnPutFai
 ghost use Rattle.std.specs.Option.{option_map};
 ghost use Rattle.command_line.specs.Answers.{memory_lines, memory_status};
 ghost use Rattle.command_line.specs.Lines.{status_line};
-ghost use Rattle.command_line.specs.Printing.{Printed, text_of};
+ghost use Rattle.command_line.specs.Printing.{Printed, sink_seen, text_of};
 
 use crate::szs_report::{FaultReport, put_report};
 use mg_outside::{PutAnswer, Sink};
@@ -41,10 +41,10 @@ pub fn put_answer<O: Sink, E: Sink>(
     err: &mut E,
 ) -> u8
     ensures { Printed
-        (record { held = O.held out.old; faults = O.faults out.old })
-        (record { held = O.held out.new; faults = O.faults out.new })
-        (record { held = E.held err.old; faults = E.faults err.old })
-        (record { held = E.held err.new; faults = E.faults err.new })
+        (sink_seen O.held O.faults out.old)
+        (sink_seen O.held O.faults out.new)
+        (sink_seen E.held E.faults err.old)
+        (sink_seen E.held E.faults err.new)
         report.now.out report.now.err status result }
 {
     if let PutAnswer::Failed = put_report(&report.out, out) {
@@ -75,10 +75,10 @@ fn put_memory_status<O: Sink>(name: Option<&str>, out: &mut O) -> PutAnswer
 /// and a message.
 pub fn put_memory_out<O: Sink, E: Sink>(name: Option<&str>, out: &mut O, err: &mut E) -> u8
     ensures { Printed
-        (record { held = O.held out.old; faults = O.faults out.old })
-        (record { held = O.held out.new; faults = O.faults out.new })
-        (record { held = E.held err.old; faults = E.faults err.old })
-        (record { held = E.held err.new; faults = E.faults err.new })
+        (sink_seen O.held O.faults out.old)
+        (sink_seen O.held O.faults out.new)
+        (sink_seen E.held E.faults err.old)
+        (sink_seen E.held E.faults err.new)
         (memory_status (option_map (λ name. name.now) name.entry)) memory_lines 4 result }
 {
     if let PutAnswer::Failed = put_memory_status(name, out) {

@@ -29,31 +29,31 @@ fn memory(alloc: Global, listed: &[(&str, &str)], failing: &[u64]) -> Result<Mem
     Ok(MemoryFiles::new(files, failing.to_vec(alloc)?)?)
 }
 
-// A sink of which the first put fails after so many bytes, where a number is given.
-fn sink(alloc: Global, taken: Option<u64>) -> Result<MemorySink, Fail> {
+// A sink of which the put with that number fails after so many bytes, where they are given.
+fn sink(alloc: Global, fails: Option<(u64, u64)>) -> Result<MemorySink, Fail> {
     let mut failing = Vec::new(alloc);
-    if let Some(taken) = taken {
-        failing.push(FailAt { call: 1, taken })?;
+    if let Some((call, taken)) = fails {
+        failing.push(FailAt { call, taken })?;
     }
     Ok(MemorySink::new(alloc, 4096, failing)?)
 }
 
-// Runs on the words, and compares the status, the output and the messages. The first put of the
-// output, or of the messages, fails after so many bytes, where a number is given.
+// Runs on the words, and compares the status, the output and the messages. A put of the output, or
+// of the messages, fails as `sink` says.
 fn compare(
     rt: &impl Abort,
     alloc: Global,
     words: &[&str],
     files: &mut MemoryFiles,
-    taken: (Option<u64>, Option<u64>),
+    fails: (Option<(u64, u64)>, Option<(u64, u64)>),
     wanted: (u8, &str, &str),
 ) -> Result<(), Fail> {
     let mut given: Vec<String> = Vec::new(alloc);
     for word in words {
         given.push(String::from_str(alloc, word)?)?;
     }
-    let mut out = sink(alloc, taken.0)?;
-    let mut err = sink(alloc, taken.1)?;
+    let mut out = sink(alloc, fails.0)?;
+    let mut err = sink(alloc, fails.1)?;
     let status = run_alone(alloc, &given, files, &mut out, &mut err);
     let (wanted_status, wanted_out, wanted_err) = wanted;
     assert!(rt;
@@ -308,34 +308,80 @@ fn reads_that_fail(rt: HostRuntime) -> Result<(), Fail> {
 }
 
 #[test]
-fn puts_that_fail(rt: HostRuntime) -> Result<(), Fail> {
+fn names_in_status_lines(rt: HostRuntime) -> Result<(), Fail> {
     let alloc = rt.alloc();
-    for (taken, out, err) in [
-        ((Some(5), None), "% SZS", ""),
+    for (file, out, err) in [
         (
-            (None, Some(6)),
-            "% SZS status Inappropriate for r\n",
-            "mgtp: ",
+            ".p",
+            "% SZS status InputError for .p\n",
+            "mgtp: .p:1:1: file not found\n",
+        ),
+        (
+            "a/.p",
+            "% SZS status InputError for .p\n",
+            "mgtp: a/.p:1:1: file not found\n",
+        ),
+        (
+            "a.p/b",
+            "% SZS status InputError for b\n",
+            "mgtp: a.p/b:1:1: file not found\n",
+        ),
+        (
+            "/a/x.p.p",
+            "% SZS status InputError for x.p\n",
+            "mgtp: /a/x.p.p:1:1: file not found\n",
+        ),
+        (
+            "a/",
+            "% SZS status InputError for \n",
+            "mgtp: a/:1:1: file not found\n",
         ),
     ] {
-        let mut files = memory(alloc, &[("r.p", "cnf(a,axiom,p(X)).\n")], &[])?;
-        compare(
-            &rt,
-            alloc,
-            &["forms", "r.p"],
-            &mut files,
-            taken,
-            (3, out, err),
-        )?;
+        check(&rt, alloc, &["forms", file], &[], (2, out, err))?;
     }
-    let mut none = memory(alloc, &[], &[])?;
-    compare(
-        &rt,
-        alloc,
-        &[],
-        &mut none,
-        (None, Some(5)),
-        (3, "", "usage"),
-    )?;
+    Ok(())
+}
+
+// Each line is one put, so a put that fails leaves the lines before it whole.
+#[test]
+fn puts_that_fail(rt: HostRuntime) -> Result<(), Fail> {
+    let alloc = rt.alloc();
+    let refused = [("r.p", "cnf(a,axiom,p(X)).\n")];
+    let accepted = [("r.p", GROUND), ("t", GROUND_TREE)];
+    let status = "% SZS status Inappropriate for r\n";
+    for (words, listed, fails, out, err) in [
+        (
+            &["forms", "r.p"][..],
+            &refused[..],
+            (Some((1, 5)), None),
+            "% SZS",
+            "",
+        ),
+        (
+            &["forms", "r.p"][..],
+            &refused[..],
+            (None, Some((1, 6))),
+            status,
+            "mgtp: ",
+        ),
+        (
+            &["check", "r.p", "t"][..],
+            &accepted[..],
+            (Some((2, 7)), None),
+            "% SZS status Unsatisfiable for r\n% Tree ",
+            "",
+        ),
+        (
+            &["forms", "r.p"][..],
+            &accepted[..],
+            (Some((3, 6)), None),
+            "form 1 c1: -> p; q\nform 2 c2: p ->\nform 3",
+            "",
+        ),
+        (&[][..], &accepted[..], (None, Some((1, 5))), "", "usage"),
+    ] {
+        let mut files = memory(alloc, listed, &[])?;
+        compare(&rt, alloc, words, &mut files, fails, (3, out, err))?;
+    }
     Ok(())
 }

@@ -1,8 +1,9 @@
 //! The top call: from the words to the status.
 
 ghost use Rattle.std.specs.Prelude.{◌≡◌, map, string_bytes};
-ghost use Rattle.command_line.specs.Printing.{Printed};
-ghost use Rattle.command_line.specs.Runs.{Runs, IsRefusedPrint};
+ghost use Rattle.command_line.specs.Printing.{sink_seen};
+ghost use Rattle.command_line.specs.Runs.{Runs, IsRefusedPrint, outside_of};
+ghost use Rattle.cnf_reader.specs.Reading.{counts_of};
 ghost use Rattle.command_line.specs.Exact.{IsExact};
 ghost use Rattle.command_line.specs.Requests.{seen};
 ghost use Rattle.command_line.specs.Asking.{problem_file};
@@ -32,10 +33,10 @@ fn files_of<'a>(request: Request<'a>) -> (&'a str, &'a str)
 // Refuses words that ask for no command.
 fn refuse_words<O: Sink, E: Sink>(alloc: Global, out: &mut O, err: &mut E) -> u8
     ensures { IsRefusedPrint
-        (record { held = O.held out.old; faults = O.faults out.old })
-        (record { held = O.held out.new; faults = O.faults out.new })
-        (record { held = E.held err.old; faults = E.faults err.old })
-        (record { held = E.held err.new; faults = E.faults err.new })
+        (sink_seen O.held O.faults out.old)
+        (sink_seen O.held O.faults out.new)
+        (sink_seen E.held E.faults err.old)
+        (sink_seen E.held E.faults err.new)
         result }
 {
     match report_fault(alloc, "", Trouble::Usage) {
@@ -54,10 +55,10 @@ fn put_request<O: Sink, E: Sink>(
 ) -> u8
     requires { IsReportable answer.now }
     ensures { IsAnswerPrint (seen request.entry) answer.now
-        (record { held = O.held out.old; faults = O.faults out.old })
-        (record { held = O.held out.new; faults = O.faults out.new })
-        (record { held = E.held err.old; faults = E.faults err.old })
-        (record { held = E.held err.new; faults = E.faults err.new })
+        (sink_seen O.held O.faults out.old)
+        (sink_seen O.held O.faults out.new)
+        (sink_seen E.held E.faults err.old)
+        (sink_seen E.held E.faults err.new)
         result }
 {
     let (file, tree) = files_of(request);
@@ -78,33 +79,14 @@ pub fn run_alone<F: Files, O: Sink, E: Sink>(
     out: &mut O,
     err: &mut E,
 ) -> u8
+    ensures same { F.table files.new ≡ F.table files.old }
     ensures runs { Runs (map string_bytes words.now)
-        (record {
-          told = F.table files.old;
-          counts = record { faults = F.faults files.old; absences = F.absences files.old; overruns = F.overruns files.old };
-          out = record { held = O.held out.old; faults = O.faults out.old };
-          err = record { held = E.held err.old; faults = E.faults err.old };
-        })
-        (record {
-          told = F.table files.new;
-          counts = record { faults = F.faults files.new; absences = F.absences files.new; overruns = F.overruns files.new };
-          out = record { held = O.held out.new; faults = O.faults out.new };
-          err = record { held = E.held err.new; faults = E.faults err.new };
-        })
+        (outside_of F.table (counts_of F.faults F.absences F.overruns) (sink_seen O.held O.faults) (sink_seen E.held E.faults) files.old out.old err.old)
+        (outside_of F.table (counts_of F.faults F.absences F.overruns) (sink_seen O.held O.faults) (sink_seen E.held E.faults) files.new out.new err.new)
         result }
     ensures exact { IsExact (map string_bytes words.now)
-        (record {
-          told = F.table files.old;
-          counts = record { faults = F.faults files.old; absences = F.absences files.old; overruns = F.overruns files.old };
-          out = record { held = O.held out.old; faults = O.faults out.old };
-          err = record { held = E.held err.old; faults = E.faults err.old };
-        })
-        (record {
-          told = F.table files.new;
-          counts = record { faults = F.faults files.new; absences = F.absences files.new; overruns = F.overruns files.new };
-          out = record { held = O.held out.new; faults = O.faults out.new };
-          err = record { held = E.held err.new; faults = E.faults err.new };
-        })
+        (outside_of F.table (counts_of F.faults F.absences F.overruns) (sink_seen O.held O.faults) (sink_seen E.held E.faults) files.old out.old err.old)
+        (outside_of F.table (counts_of F.faults F.absences F.overruns) (sink_seen O.held O.faults) (sink_seen E.held E.faults) files.new out.new err.new)
         result }
 {
     let Some(request) = request_of(words) else {
