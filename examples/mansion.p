@@ -1,4 +1,4 @@
-% A mansion puzzle: who killed Agatha?
+% A mansion puzzle.
 cnf(agatha,hypothesis, ( lives(agatha) )).
 cnf(butler,hypothesis, ( lives(butler) )).
 cnf(charles,hypothesis, ( lives(charles) )).
