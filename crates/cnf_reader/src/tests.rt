@@ -2,7 +2,7 @@
 
 use crate::{ReadFault, ReadKind, read_problem};
 use mg_outside::MemoryFiles;
-use mg_word::{ClauseLit, Text};
+use mg_word::Text;
 use std::alloc::Global;
 use std::process::Abort;
 use std::test::Fail;
@@ -142,6 +142,36 @@ fn selections_and_roots(rt: HostRuntime) -> Result<(), Fail> {
             assert_eq!(rt; input.clauses.as_slice().len(), 1);
             assert_eq!(rt; input.files.as_slice().len(), 2);
             assert_eq!(rt; input.symbols.len(), 1);
+        }
+        Err(_) => {
+            assert!(rt; false, "refused");
+        }
+    }
+    Ok(())
+}
+
+#[test]
+fn lines_with_conclusions_and_includes(rt: HostRuntime) -> Result<(), Fail> {
+    let alloc = rt.alloc();
+    let mut files = memory(
+        alloc,
+        &[
+            (
+                "m.p",
+                "cnf(different_hates,hypothesis, ( ~ hates(agatha,X) | ~ hates(charles,X) )).\ncnf(colour,axiom, ~ node(X) | red(X) | green(X), unknown, [conclude([3])]).\ninclude('Axioms/PUZ001.ax',[agatha,butler]).\n",
+            ),
+            (
+                "Axioms/PUZ001.ax",
+                "cnf(agatha,axiom,lives(agatha)).\ncnf(charles,axiom,lives(charles)).\ncnf(butler,axiom,lives(butler)).\n",
+            ),
+        ],
+    )?;
+    match read_problem(alloc, &mut files, "m.p", None) {
+        Ok(input) => {
+            assert_eq!(rt; input.clauses.as_slice().len(), 4);
+            assert_eq!(rt; input.files.as_slice().len(), 2);
+            // agatha, charles and butler; hates; node, red and green; lives.
+            assert_eq!(rt; input.symbols.len(), 8);
         }
         Err(_) => {
             assert!(rt; false, "refused");
