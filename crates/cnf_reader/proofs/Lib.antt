@@ -2,6 +2,8 @@ pub mod Drafting
 pub mod Numbering
 pub mod Growing
 pub mod Fitting
+pub mod StandingFor
+pub mod Occurring
 pub mod Chosen
 pub mod KeptSound
 pub mod Suiting

@@ -2,6 +2,7 @@ pub mod Drafts
 pub mod Faults
 pub mod Statements
 pub mod Keeping
+pub mod Numbers
 pub mod Names
 pub mod Reading
 pub mod Parts

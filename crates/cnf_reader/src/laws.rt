@@ -1,12 +1,14 @@
-//! That reading is a function of the files, and that a statement, and so a file, is read as what it means. The functions do
-//! nothing: each is called for what it ensures.
+//! That reading is a function of the files, that a statement, and so a file, is read as what it means, and that the numbers
+//! of symbols stand for those that were read. The functions do nothing: each is called for what it ensures.
 
-ghost use Rattle.std.specs.Prelude.{◌≡◌, ◌⊎◌, ℕ, Bool, List, Option, Some, Result, Ok, Err};
+ghost use Rattle.std.specs.Prelude.{◌≡◌, ◌≢◌, ◌⊎◌, ℕ, Bool, List, ◌++◌, AllPairs, Option, Some, Result, Ok, Err};
 ghost use Rattle.mg_word.specs.declared.clause.Name.{Name};
 ghost use Rattle.cnf_grammar.specs.declared.mode.Mode.{Mode};
 ghost use Rattle.cnf_grammar.specs.declared.mode.Mode.TheVariants.{Statement};
 ghost use Rattle.cnf_grammar.specs.declared.place.Place.{Place};
+ghost use Rattle.cnf_grammar.specs.Meaning.{ClauseLiteral};
 ghost use Rattle.mg_word.specs.Facts.{InputData};
+ghost use Rattle.mg_word.specs.Table.{Symbol};
 ghost use Rattle.mg_outside.specs.Reading.{Table};
 ghost use Rattle.cnf_reader.specs.declared.fault.ReadFault.{ReadFault};
 ghost use Rattle.cnf_reader.specs.declared.kept.Kept.{Kept};
@@ -17,6 +19,8 @@ ghost use Rattle.cnf_reader.specs.Statements.{fresh};
 ghost use Rattle.cnf_reader.specs.Meanings.{Written, TakesStatement, HoldsItsMeaning};
 ghost use Rattle.cnf_reader.specs.Files.{IsReadAsSaid};
 ghost use Rattle.cnf_reader.specs.Stops.{Stop};
+ghost use Rattle.cnf_reader.specs.Keeping.{with_literals, numbered_literals};
+ghost use Rattle.cnf_reader.specs.Numbers.{LiteralsStandFor, GoesOnBy};
 
 use cnf_grammar::{each_file_leaves_its_meaning, only_files_are_accepted};
 
@@ -54,4 +58,13 @@ pub fn each_file_is_read_as_its_statements()
 /// what the statements before it say.
 pub fn faults_stand_where_the_grammar_stops()
     ensures { (lower : Asked → Kept → Result Kept ReadFault) (source : Source) (kept : Kept) (fault : ReadFault) → read_source lower source kept ≡ Err fault → Stop lower source kept fault }
+{}
+
+/// Each number in the literals of a clause stands for the symbol that was read there, by name, arity
+/// and kind, whatever symbols come later; signs, constants and variables are the same. The table goes
+/// on as it was, with symbols of the literals alone, and its symbols stay different.
+pub fn numbers_stand_for_their_symbols()
+    ensures meaning { (table more : List Symbol) (literals : List ClauseLiteral) → LiteralsStandFor (with_literals table literals ++ more) (numbered_literals table literals) literals }
+    ensures grown { (table : List Symbol) (literals : List ClauseLiteral) → GoesOnBy literals table (with_literals table literals) }
+    ensures different { (table : List Symbol) (literals : List ClauseLiteral) → AllPairs (λ a b. a ≢ b) table → AllPairs (λ a b. a ≢ b) (with_literals table literals) }
 {}
