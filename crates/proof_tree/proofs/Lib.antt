@@ -19,3 +19,7 @@ pub mod TreeCounts
 pub mod LineFeeds
 pub mod TreeFronts
 pub mod Documents
+pub mod OneFormLine
+pub mod OneKind
+pub mod OneFront
+pub mod OneDocFault

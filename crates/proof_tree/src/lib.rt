@@ -2,6 +2,7 @@
 #![tactic(auto)]
 
 mod form_lines;
+mod laws;
 mod lines;
 mod lists;
 mod names;
@@ -10,6 +11,7 @@ mod reading;
 mod slices;
 mod terms;
 
+pub use laws::one_document_fault;
 pub use reading::read_doc;
 
 #[cfg(test)]
