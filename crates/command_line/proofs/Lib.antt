@@ -4,3 +4,5 @@ pub mod Strokes
 pub mod Telling
 pub mod Words
 pub mod Exactness
+pub mod OneReject
+pub mod OneAnswer

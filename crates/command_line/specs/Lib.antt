@@ -10,3 +10,4 @@ pub mod Requests
 pub mod Runs
 pub mod Troubles
 pub mod Exact
+pub mod OneAnswer

@@ -3,6 +3,7 @@
 
 mod answer;
 mod answering;
+mod laws;
 mod putting;
 #[cfg(test)]
 mod report_tests;
