@@ -17,7 +17,7 @@ use Rattle.tree_checker.specs.Docs.{most_symbols}
 use Rattle.tree_checker.specs.declared.doc.TreeLine.{TreeLine}
 use Rattle.tree_checker.specs.declared.doc.TreeLine.TheVariants.{Form as FormLine, Clash, Barred, By}
 use Rattle.tree_checker.specs.declared.doc_fault.DocKind.{DocKind}
-use Rattle.tree_checker.specs.declared.doc_fault.DocKind.TheVariants.{Header, NotBuilt, Syntax, Block, FormNumber, Unknown, Heavy, Order, Early, Rest}
+use Rattle.tree_checker.specs.declared.doc_fault.DocKind.TheVariants.{NotBuilt, Syntax, FormNumber, Unknown, Heavy}
 use Rattle.proof_tree.specs.DocText.{after_items, in_brackets}
 use Rattle.proof_tree.specs.DocFaults.{are_own_terms, IsOwnTerm, IsFormLine, HasUnknown, AllKnown, IsHeavy, is_later_line, TreeLineFault}
 use Rattle.proof_tree.specs.Lists.{IsLight, IsOnlyList, IsListRead}
@@ -154,13 +154,9 @@ module _ (problem : ProblemData) (named : list_all is_symbol problem.symbols ≡
 
   -- a line of a tree has no fault
   pub fine_line : (kind : DocKind) → TreeLineFault problem text kind → ⊥
-  fine_line Header fault = fault
   fine_line NotBuilt fault = true≢false (sym fault ∙ line_read line is)
   fine_line Syntax fault = no_raw_line problem named different text fault.1 line is
-  fine_line Block fault = fault
   fine_line FormNumber fault = no_other_number fault.0 fault.1 fault.2 fault.3
   fine_line Unknown fault = no_unknown fault.0 fault.1 fault.2 fault.3 fault.4
   fine_line Heavy fault = no_heavy fault.0 fault.1 fault.2 fault.3 fault.4 fault.5
-  fine_line Order fault = fault
-  fine_line Early fault = fault
-  fine_line Rest fault = fault
+  fine_line kind fault = fault

@@ -4,7 +4,7 @@ use Rattle.mg_word.specs.Table.{Symbol}
 use Rattle.mg_word.specs.Words.{numbered}
 use Rattle.mg_word.specs.Facts.{ProblemData}
 use Rattle.tree_checker.specs.declared.doc_fault.DocKind.{DocKind}
-use Rattle.tree_checker.specs.declared.doc_fault.DocKind.TheVariants.{Header, NotBuilt, Syntax, Block, FormNumber, Unknown, Heavy, Order, Early, Rest}
+use Rattle.tree_checker.specs.declared.doc_fault.DocKind.TheVariants.{Header, NotBuilt, Syntax, FormNumber, Unknown, Heavy, Early, Rest}
 use Rattle.proof_tree.specs.DocText.{header, root_word}
 use Rattle.proof_tree.specs.DocFaults.{Place, at_header, at_root, in_tree, IsFormLine, IsSymbolOf, HasUnknown, AllKnown, is_later_line, TreeLineFault, LineFault, has_no_feed, BeginsWithLine, FaultAt}
 use Rattle.proof_tree.proofs.FormLines.{any_all}
@@ -24,16 +24,12 @@ data SeenFault (problem : ProblemData) (line : List ℕ) (kind : DocKind) : Type
   wrong : (number : ℕ) (terms : List (List Symbol)) → IsFormLine line number terms → NamedFault problem number terms kind → SeenFault problem line kind
 
 seen : (problem : ProblemData) (line : List ℕ) (kind : DocKind) → TreeLineFault problem line kind → SeenFault problem line kind
-seen problem line Header fault = absurd fault
 seen problem line NotBuilt fault = later refl fault
 seen problem line Syntax fault = unread refl fault.0 fault.1
-seen problem line Block fault = absurd fault
 seen problem line FormNumber fault = wrong fault.0 fault.1 fault.2 (no_form refl fault.3)
 seen problem line Unknown fault = wrong fault.0 fault.1 fault.2 (unknown refl fault.3 fault.4)
 seen problem line Heavy fault = wrong fault.0 fault.1 fault.2 (heavy refl fault.3 fault.4)
-seen problem line Order fault = absurd fault
-seen problem line Early fault = absurd fault
-seen problem line Rest fault = absurd fault
+seen problem line kind fault = absurd fault
 
 unknown_or_known : (table : List Symbol) (terms : List (List Symbol)) → Any (HasUnknown table) terms → All (AllKnown table) terms → ⊥
 unknown_or_known table terms = any_all (HasUnknown table) (AllKnown table) terms (λ term missing all. any_all (λ symbol. IsSymbolOf table symbol → ⊥) (IsSymbolOf table) term (λ symbol missing' has. missing' has) missing all)
@@ -66,40 +62,17 @@ seen_once problem line kind other (wrong n terms raw fault) (wrong m others raw'
 -- the first line is wrong where it is not the header
 pub header_kind : (problem : ProblemData) (line : List ℕ) (kind : DocKind) → LineFault problem at_header line kind → (kind ≡ Header) × (line ≢ header)
 header_kind problem line Header fault = (refl, fault)
-header_kind problem line NotBuilt fault = absurd fault
-header_kind problem line Syntax fault = absurd fault
-header_kind problem line Block fault = absurd fault
-header_kind problem line FormNumber fault = absurd fault
-header_kind problem line Unknown fault = absurd fault
-header_kind problem line Heavy fault = absurd fault
-header_kind problem line Order fault = absurd fault
-header_kind problem line Early fault = absurd fault
-header_kind problem line Rest fault = absurd fault
+header_kind problem line kind fault = absurd fault
 
 -- the second line is wrong where its kind is not read yet, and else where it is not the root's
 pub root_kind : (problem : ProblemData) (line : List ℕ) (kind : DocKind) → LineFault problem at_root line kind → ((kind ≡ NotBuilt) × (is_later_line line ≡ true)) ⊎ ((kind ≡ Syntax) × (is_later_line line ≡ false) × (line ≢ root_word))
-root_kind problem line Header fault = absurd fault
 root_kind problem line NotBuilt fault = inl (refl, fault)
 root_kind problem line Syntax fault = inr (refl, fault.0, fault.1)
-root_kind problem line Block fault = absurd fault
-root_kind problem line FormNumber fault = absurd fault
-root_kind problem line Unknown fault = absurd fault
-root_kind problem line Heavy fault = absurd fault
-root_kind problem line Order fault = absurd fault
-root_kind problem line Early fault = absurd fault
-root_kind problem line Rest fault = absurd fault
+root_kind problem line kind fault = absurd fault
 
 rest_kind : (problem : ProblemData) (line : List ℕ) (kind : DocKind) → LineFault problem (in_tree zero) line kind → kind ≡ Rest
-rest_kind problem line Header fault = absurd fault
-rest_kind problem line NotBuilt fault = absurd fault
-rest_kind problem line Syntax fault = absurd fault
-rest_kind problem line Block fault = absurd fault
-rest_kind problem line FormNumber fault = absurd fault
-rest_kind problem line Unknown fault = absurd fault
-rest_kind problem line Heavy fault = absurd fault
-rest_kind problem line Order fault = absurd fault
-rest_kind problem line Early fault = absurd fault
 rest_kind problem line Rest fault = refl
+rest_kind problem line kind fault = absurd fault
 
 -- what is wrong with a line of the tree that is still to come
 pub tree_line_fault : (problem : ProblemData) (wanted : ℕ) (line : List ℕ) (kind : DocKind) → LineFault problem (in_tree (suc wanted)) line kind → TreeLineFault problem line kind
@@ -128,16 +101,8 @@ pub data TextFault (problem : ProblemData) (place : Place) (text : List ℕ) (ki
 
 -- each fault is one of these
 pub text_fault : (problem : ProblemData) (place : Place) (text : List ℕ) (kind : DocKind) → FaultAt problem place text kind → TextFault problem place text kind
-text_fault problem place text Header fault = at_line fault.0 fault.1 fault.2 fault.3
-text_fault problem place text NotBuilt fault = at_line fault.0 fault.1 fault.2 fault.3
-text_fault problem place text Syntax fault = at_line fault.0 fault.1 fault.2 fault.3
-text_fault problem place text Block fault = at_line fault.0 fault.1 fault.2 fault.3
-text_fault problem place text FormNumber fault = at_line fault.0 fault.1 fault.2 fault.3
-text_fault problem place text Unknown fault = at_line fault.0 fault.1 fault.2 fault.3
-text_fault problem place text Heavy fault = at_line fault.0 fault.1 fault.2 fault.3
-text_fault problem place text Order fault = at_line fault.0 fault.1 fault.2 fault.3
 text_fault problem place text Early fault = ends refl fault.0
-text_fault problem place text Rest fault = at_line fault.0 fault.1 fault.2 fault.3
+text_fault problem place text kind fault = at_line fault.0 fault.1 fault.2 fault.3
 
 -- a text without a line feed begins with no line
 pub no_line_begins : (text line after : List ℕ) → has_no_feed text ≡ true → BeginsWithLine text line after → ⊥
