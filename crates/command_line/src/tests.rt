@@ -289,10 +289,15 @@ fn words_that_ask_for_no_command(rt: HostRuntime) -> Result<(), Fail> {
 #[test]
 fn reads_that_fail(rt: HostRuntime) -> Result<(), Fail> {
     let alloc = rt.alloc();
-    let listed = [("r.p", GROUND), ("t", GROUND_TREE)];
+    let listed = [
+        ("r.p", "include('a.p').\n"),
+        ("a.p", GROUND),
+        ("t", GROUND_TREE),
+    ];
     for (failing, err) in [
         (1, "mgtp: r.p:1:1: read failed\n"),
-        (2, "mgtp: t: read failed\n"),
+        (2, "mgtp: r.p:1:9: read failed\n"),
+        (3, "mgtp: t: read failed\n"),
     ] {
         let mut files = memory(alloc, &listed, &[failing])?;
         compare(
