@@ -13,6 +13,7 @@ use Rattle.cnf_grammar.specs.Table.{in_info}
 use Rattle.cnf_grammar.specs.Conclude.{gives_conclusions, number_of_token, may_follow}
 use Rattle.cnf_grammar.specs.declared.item.ItemPlace.TheVariants.{Start as item_start, WordRead as word_read, Open as item_open, ListOpen as list_open, NumberRead as number_read, NumberStart as number_start, ListClosed as list_closed, Closed as item_closed, Other as other_item}
 use Rattle.cnf_grammar.specs.Items.{names_above, at_item, number_at, item_step}
+use Rattle.mg_word.proofs.Members.{both_true}
 use Rattle.cnf_grammar.proofs.Accepting.{mark_is, keyword_is}
 use Rattle.cnf_reader.specs.Statements.{with_number, with_item}
 
@@ -90,10 +91,6 @@ pick : (test : Bool) (p : ItemPlace) (o : Option ItemPlace) (q : ItemPlace) → 
 pick true p o q e = inl (refl, cc)
 pick false p o q e = inr (refl, e)
 
-both_true : (a b : Bool) → (a && b) ≡ true → a ≡ true
-both_true true b h = refl
-both_true false b h = cc
-
 other_first : (s : Shape) (rest : List Shape) → is_keyword (codes "conclude") s ≡ false → gives_conclusions (s ∷ rest) ≡ false
 other_first s [] h = refl
 other_first s (m ∷ more) h = ap (λ b. b && is_mark left_round m) h
@@ -156,7 +153,7 @@ module _ (words : List Bool) (level depth : ℕ) (brackets : List Bracket) (next
       elim (pick (is_mark right_square s) list_closed (at_item (is_mark comma s && names_above words last) (number_start last) None) q e) [
         | inl k ↦ list_ends s q h goes k.0 k.1
         | inr k ↦ elim (pick (is_mark comma s && names_above words last) (number_start last) None q k.1) [
-          | inl w ↦ let is = mark_is comma s (both_true (is_mark comma s) (names_above words last) w.0) in let few = comma_keeps level depth brackets next (subst Goes is goes) in let many = h.few in
+          | inl w ↦ let is = mark_is comma s (both_true (is_mark comma s) (names_above words last) w.0).0 in let few = comma_keeps level depth brackets next (subst Goes is goes) in let many = h.few in
               subst (λ x. Added x s) w.1 (subst (λ x. Added (number_start last) x) (sym is) (add_mark 2 2 brackets next.brackets chosen tokens comma h (omega (arith, few, many))))
           | inr w ↦ absurd cc
         ]

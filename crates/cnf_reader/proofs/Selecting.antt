@@ -9,6 +9,7 @@ use Rattle.mg_word.specs.SymbolLaws.{same_symbol, symbols_equal}
 use Rattle.mg_word.specs.declared.symbol.Kind.{Kind}
 use Rattle.mg_word.specs.declared.symbol.Kind.TheVariants.{Word, Integer, Distinct}
 use Rattle.mg_word.specs.declared.clause.Name.{Name}
+use Rattle.mg_word.proofs.Members.{and_true, both_true}
 use Rattle.mg_word.proofs.NameTexts.{name_utf8}
 use Rattle.cnf_reader.specs.Faults.{same_kind, same_name}
 use Rattle.cnf_reader.specs.Keeping.{with_symbol}
@@ -76,23 +77,15 @@ kind_itself Word = refl
 kind_itself Integer = refl
 kind_itself Distinct = refl
 
-both : (a b : Bool) → (a && b) ≡ true → (a ≡ true) × (b ≡ true)
-both true b h = (refl, h)
-both false b h = absurd (true≢false (sym h))
-
-both_hold : (a b : Bool) → a ≡ true → b ≡ true → (a && b) ≡ true
-both_hold true b one two = two
-both_hold false b one two = one
-
 -- names are the same exactly where their symbols are
 names_same : (a b : Name) → same_symbol (name_symbol a) (name_symbol b) ≡ same_name a b
 names_same a b =
     iff (same_symbol (name_symbol a) (name_symbol b)) (same_name a b)
     (λ same.
     let e = (symbols_equal (name_symbol a) (name_symbol b)).0 same in
-    both_hold (same_kind a.kind b.kind) (bytes_eq a.text b.text) (subst (λ k. same_kind a.kind k ≡ true) (ap (λ (s : Symbol). s.kind) e) (kind_itself a.kind)) ((bytes_eq-Decides a.text b.text).1 (ap (λ (s : Symbol). s.name) e)))
+    and_true (same_kind a.kind b.kind) (bytes_eq a.text b.text) (subst (λ k. same_kind a.kind k ≡ true) (ap (λ (s : Symbol). s.kind) e) (kind_itself a.kind)) ((bytes_eq-Decides a.text b.text).1 (ap (λ (s : Symbol). s.name) e)))
     (λ same.
-    let parts = both (same_kind a.kind b.kind) (bytes_eq a.text b.text) same in
+    let parts = both_true (same_kind a.kind b.kind) (bytes_eq a.text b.text) same in
     let kinds = kinds_same a.kind b.kind parts.0 in
     let texts = (bytes_eq-Decides a.text b.text).0 parts.1 in
     (symbols_equal (name_symbol a) (name_symbol b)).1 (λ i. record { name = texts i; arity = 0; kind = kinds i }))
@@ -120,9 +113,9 @@ looked_up names name found table is none = some_if found table (name_symbol name
 pub no_text_among : (names : List Name) (name : Name) → AreNames names → (IsUtf8 name.text → ⊥) → list_any (λ other. same_name other name) names ≡ false
 no_text_among [] name are none = refl
 no_text_among (other ∷ names) name are none =
-    let each = both (list_all is_name_byte other.text) (list_all (λ (one : Name). list_all is_name_byte one.text) names) are in
+    let each = both_true (list_all is_name_byte other.text) (list_all (λ (one : Name). list_all is_name_byte one.text) names) are in
     rw (apart (same_name other name) refl each.0) (no_text_among names name each.1 none)
   where
     apart : (test : Bool) → same_name other name ≡ test → list_all is_name_byte other.text ≡ true → same_name other name ≡ false
-    apart true same text = absurd (none (subst IsUtf8 ((bytes_eq-Decides other.text name.text).0 (both (same_kind other.kind name.kind) (bytes_eq other.text name.text) same).1) (name_utf8 other.text text)))
+    apart true same text = absurd (none (subst IsUtf8 ((bytes_eq-Decides other.text name.text).0 (both_true (same_kind other.kind name.kind) (bytes_eq other.text name.text) same).1) (name_utf8 other.text text)))
     apart false same text = same
