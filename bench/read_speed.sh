@@ -21,11 +21,12 @@ make() {
     }' > "$1"
 }
 
-# Seconds that one call takes.
+# Seconds that one call takes. Each clause has one form, so the last line counts the clauses.
 seconds() {
     start=$(date +%s%N)
-    "$program" forms "$1" > /dev/null 2>&1 || true
+    "$program" forms "$1" > "$folder/answer" || { echo "read_speed: forms failed" >&2; exit 1; }
     end=$(date +%s%N)
+    [ "$(tail -n 1 "$folder/answer")" = '% Forms: 19000' ] || { echo "read_speed: other forms" >&2; exit 1; }
     awk -v ns=$((end - start)) 'BEGIN { print ns / 1000000000 }'
 }
 
