@@ -20,9 +20,9 @@ pub use laws::{
     satisfying_is_saturated, sets_are_ordered,
 };
 pub use least::least_violated;
-pub use matching::{Partial, form_matches};
+pub use matching::{PartialSubst, form_matches};
 pub use minimal::is_minimal;
-pub use satisfying::satisfies;
+pub use satisfying::is_satisfying;
 
 #[cfg(test)]
 mod tests;

@@ -6,7 +6,7 @@ ghost use Rattle.mg_meaning.specs.Minimality.{IsMinimal};
 ghost use Rattle.mg_meaning.specs.Parts.{with_and_without, parts_of, IsSmaller};
 
 use crate::lits::is_part_of;
-use crate::satisfying::satisfies;
+use crate::satisfying::is_satisfying;
 use mg_word::{Items, Lit, NoMemory, Problem};
 use std::alloc::Global;
 
@@ -73,7 +73,7 @@ fn is_smaller(alloc: Global, problem: &Problem, part: &[Lit], set: &[Lit]) -> Re
     if !is_proper(part, set) {
         return Ok(false);
     }
-    satisfies(alloc, problem, part)
+    is_satisfying(alloc, problem, part)
 }
 
 // Whether one of these is.
@@ -98,7 +98,7 @@ fn has_smaller(
 pub fn is_minimal(alloc: Global, problem: &Problem, set: &[Lit]) -> Result<bool, NoMemory>
     ensures { IfOk result (λ answer. IsTrue answer ↔ IsMinimal set.now problem.now) }
 {
-    if !satisfies(alloc, problem, set)? {
+    if !is_satisfying(alloc, problem, set)? {
         return Ok(false);
     }
     let parts = all_parts(alloc, set)?;

@@ -51,7 +51,7 @@ fn all_fit(symbols: &Symbols, lits: &[Lit]) -> bool
 }
 
 /// Whether the set satisfies the problem. The numbers of forms fit 32 bits.
-pub fn satisfies(alloc: Global, problem: &Problem, set: &[Lit]) -> Result<bool, NoMemory>
+pub fn is_satisfying(alloc: Global, problem: &Problem, set: &[Lit]) -> Result<bool, NoMemory>
     ensures { IfOk result (λ answer. IsTrue answer ↔ Satisfies set.now problem.now) }
 {
     if !is_without_clash(set) || !all_fit(&problem.symbols, set) {

@@ -2,7 +2,7 @@
 
 use crate::instances::violated_by_forms;
 use crate::least::least_place;
-use crate::{form_matches, is_minimal, least_violated, satisfies, violated_instances};
+use crate::{form_matches, is_minimal, is_satisfying, least_violated, violated_instances};
 use mg_word::{Form, Item, Items, Kind, Lit, NoMemory, PatLit, Pattern, Problem, Symbols, Word};
 use std::alloc::Global;
 use std::test::Fail;
@@ -93,7 +93,7 @@ fn the_empty_problem(rt: HostRuntime) -> Result<(), Fail> {
         clauses: Items::empty(alloc),
         forms: Items::empty(alloc),
     };
-    assert!(rt; satisfies(alloc, &problem, &[])?);
+    assert!(rt; is_satisfying(alloc, &problem, &[])?);
     assert!(rt; is_minimal(alloc, &problem, &[])?);
     assert!(rt; least_violated(alloc, &problem, &[])?.is_none());
     assert_eq!(rt; violated_instances(alloc, &problem, &[])?.len(), 0);

@@ -5,6 +5,6 @@ use Rattle.mg_meaning.proofs.minimal.is_minimal.Goals as goal
 
 pub returns : goal.returns
 returns c =
-    let yes_it_does : c.in_ok-satisfies.field-0 ≡ true = grind (arith, c.if-not-branch.false) in
-    minimal_test c.args.problem.now c.args.set.now c.in_ok-smaller.smaller (c.in_ok-satisfies.ensures.0 yes_it_does) c.in_ok-smaller.ensures.found
+    let yes_it_does : c.in_ok-is_satisfying.field-0 ≡ true = grind (arith, c.if-not-branch.false) in
+    minimal_test c.args.problem.now c.args.set.now c.in_ok-smaller.smaller (c.in_ok-is_satisfying.ensures.0 yes_it_does) c.in_ok-smaller.ensures.found
     (λ e. subst (All (λ part. IsSmaller c.args.problem.now c.args.set.now part → ⊥)) (c.as_slice.ensures.value ∙ c.in_ok-parts.ensures) (c.in_ok-smaller.ensures.none e))

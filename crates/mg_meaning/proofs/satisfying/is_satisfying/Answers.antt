@@ -3,7 +3,7 @@ use Rattle.mg_word.specs.Facts.{ProblemData}
 use Rattle.mg_word.specs.Sets.{is_clash_free}
 use Rattle.mg_meaning.specs.Instances.{are_literals}
 use Rattle.mg_meaning.proofs.Answering.{satisfying_test}
-use Rattle.mg_meaning.proofs.satisfying.satisfies.Goals as goal
+use Rattle.mg_meaning.proofs.satisfying.is_satisfying.Goals as goal
 
 pub returns : goal.returns
 returns c =
