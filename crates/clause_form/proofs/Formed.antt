@@ -10,6 +10,7 @@ use Rattle.mg_word.specs.SymbolOrder.{IsSortedTable}
 use Rattle.mg_word.specs.declared.clause.Clause.{Clause}
 use Rattle.mg_word.specs.declared.form.Form.{Form}
 use Rattle.mg_word.proofs.Narrow.{forms_narrow}
+use Rattle.mg_word.proofs.Sorting.{permuted_different}
 use Rattle.clause_form.specs.Building.{HasFewParts}
 use Rattle.clause_form.specs.Faults.{is_light_clause, is_faultless, Stands}
 use Rattle.clause_form.specs.Forming.{IsFormed}
@@ -26,6 +27,7 @@ use Rattle.clause_form.proofs.Renumbered.{faultless_mapped, stands_unmapped}
 pub input_kept : (before after : List Symbol) (n : List ℕ) (files : List (List ℕ)) (clauses : List Clause) → IsSortedTable before after n → IsInput before files clauses → IsInput after files (renumbered n clauses)
 input_kept before after n files clauses sorted facts = record {
   named = symbols_kept before after sorted.permuted facts.named;
+  different = permuted_different before after sorted.permuted facts.different;
   each = All-map (IsClause after (length files)) (clause_renumbered n) clauses
       (All-weaker (IsClause before (length files)) (λ clause. IsClause after (length files) (clause_renumbered n clause)) (λ clause. clause_kept before after n (length files) clause sorted.renumbered) clauses facts.each);
   few = let e = length-map clauses (clause_renumbered n) in omega (arith, facts.few);

@@ -9,7 +9,7 @@ use Rattle.std.specs.Option.{option_map, option_map_or}
 use Rattle.mg_word.specs.Table.{Symbol}
 use Rattle.mg_word.specs.Words.{are_patterns, numbered}
 use Rattle.mg_word.specs.Forms.{conclusions_of, is_among}
-use Rattle.mg_word.specs.Facts.{IsClause, literal_fits, literal_variables, is_choosable, are_choices, is_symbol}
+use Rattle.mg_word.specs.Facts.{IsClause, begins_with_symbol, has_atom, literal_fits, literal_variables, is_choosable, are_choices, is_symbol}
 use Rattle.mg_word.specs.SymbolOrder.{IsRenumbering}
 use Rattle.mg_word.specs.declared.item.Item.{Item}
 use Rattle.mg_word.specs.declared.item.Item.TheVariants.{Sym, Var}
@@ -18,7 +18,7 @@ use Rattle.mg_word.specs.declared.clause.ClauseLit.TheVariants.{True, False, Lit
 use Rattle.mg_word.specs.declared.clause.Clause.{Clause}
 use Rattle.clause_form.specs.Renumbering.{pattern_renumbered, lit_renumbered, literal_renumbered, clause_renumbered}
 use Rattle.mg_word.proofs.Members.{both_true}
-use Rattle.clause_form.proofs.Renumbered.{variables_mapped}
+use Rattle.clause_form.proofs.Renumbered.{all_mapped, variables_mapped}
 
 -- a symbol that is held by the table, where its arguments are right, and by the other table
 known_symbol : (before after : List Symbol) (n : List ℕ) (symbol : ℕ) (found : Option Symbol) (rest rest' : ℕ → Bool) → IsRenumbering before after n → slice_get before symbol ≡ found → ((k : ℕ) → rest k ≡ true → rest' k ≡ true)
@@ -50,6 +50,16 @@ literals_fit_mapped before after n variables [] r e = refl
 literals_fit_mapped before after n variables (literal ∷ literals) r e =
     let both = both_true (literal_fits before variables literal) (list_all (literal_fits before variables) literals) e in
     rw (literal_fits_mapped before after n variables literal r both.0) (literals_fit_mapped before after n variables literals r both.1)
+
+begins_mapped : (n : List ℕ) (items : List Item) → begins_with_symbol (pattern_renumbered n items) ≡ begins_with_symbol items
+begins_mapped n [] = refl
+begins_mapped n (Sym symbol ∷ items) = refl
+begins_mapped n (Var variable ∷ items) = refl
+
+atom_mapped : (n : List ℕ) (literal : ClauseLit) → has_atom (literal_renumbered n literal) ≡ has_atom literal
+atom_mapped n True = refl
+atom_mapped n False = refl
+atom_mapped n (Literal lit) = begins_mapped n lit.pattern
 
 literal_variables_mapped : (n : List ℕ) (literals : List ClauseLit) → flat_map literal_variables (map (literal_renumbered n) literals) ≡ flat_map literal_variables literals
 literal_variables_mapped n [] = refl
@@ -95,6 +105,7 @@ conclusions_count n (Literal lit ∷ literals) = by_sign lit.negative (conclusio
 pub clause_kept : (before after : List Symbol) (n : List ℕ) (files : ℕ) (clause : Clause) → IsRenumbering before after n → IsClause before files clause → IsClause after files (clause_renumbered n clause)
 clause_kept before after n files clause r facts = record {
   fitting = literals_fit_mapped before after n (length clause.variables) clause.literals r facts.fitting;
+  atoms = all_mapped has_atom (literal_renumbered n) (atom_mapped n) clause.literals ∙ facts.atoms;
   occurring = λ variable h. ap (λ vs. is_among vs variable) (literal_variables_mapped n clause.literals) ∙ facts.occurring variable h;
   choices = all_choices_mapped n clause.literals clause.conclude ∙ facts.choices;
   positives = let e = conclusions_count n clause.literals in omega (arith, e, facts.positives);

@@ -134,7 +134,7 @@ least_mapped n form v r = record {
   least = λ other h. sym (free_mapped n form other) ∙ r.least other h;
 }
 
-all_mapped : {A : Type 0} (p : A → Bool) (f : A → A) → ((x : A) → p (f x) ≡ p x) → (xs : List A) → list_all p (map f xs) ≡ list_all p xs
+pub all_mapped : {A : Type 0} (p : A → Bool) (f : A → A) → ((x : A) → p (f x) ≡ p x) → (xs : List A) → list_all p (map f xs) ≡ list_all p xs
 all_mapped p f same [] = refl
 all_mapped p f same (x ∷ xs) = ap (λ b. b && list_all p (map f xs)) (same x) ∙ ap (λ b. p x && b) (all_mapped p f same xs)
 

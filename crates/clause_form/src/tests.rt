@@ -1,7 +1,7 @@
 //! Rows for each public call, with answers by hand. Texts of whole problems are tried where they are read.
 
 ghost use Rattle.std.specs.Prelude.{◌≡◌, ◌∷◌, [], IfOk};
-ghost use Rattle.clause_form.specs.Samples.{one_literal};
+ghost use Rattle.clause_form.specs.Samples.{one_symbol, one_literal};
 
 use crate::{FormFault, form_text, forms_of, free_variable};
 use mg_word::{
@@ -15,6 +15,17 @@ fn variable_lit(alloc: Global, negative: bool, variable: u32) -> Result<PatLit, 
     ensures { IfOk result (λ lit. lit ≡ record { negative = negative; pattern = Item.Var variable ∷ [] }) }
 {
     let items = vec![in alloc; Item::Var(variable)]?;
+    Ok(PatLit {
+        negative,
+        pattern: Pattern::new(items),
+    })
+}
+
+// The atom `p(X)` with that sign, where `p` has number 0.
+fn atom_of_variable(alloc: Global, negative: bool) -> Result<PatLit, NoMemory>
+    ensures { IfOk result (λ lit. lit ≡ record { negative = negative; pattern = Item.Sym 0 ∷ Item.Var 0 ∷ [] }) }
+{
+    let items = vec![in alloc; Item::Sym(0), Item::Var(0)]?;
     Ok(PatLit {
         negative,
         pattern: Pattern::new(items),
@@ -54,11 +65,11 @@ fn the_least_free_variable_is_named(rt: HostRuntime) -> Result<(), Fail> {
     Ok(())
 }
 
-// The clause `c` of one literal, the variable `X` with that sign.
-fn one_variable(alloc: Global, negative: bool) -> Result<Clause, NoMemory>
+// The clause `c` of one literal, the atom `p(X)` with that sign.
+fn one_clause(alloc: Global, negative: bool) -> Result<Clause, NoMemory>
     ensures { IfOk result (λ clause. clause ≡ one_literal negative) }
 {
-    let literals = vec![in alloc; ClauseLit::Lit(variable_lit(alloc, negative, 0)?)]?;
+    let literals = vec![in alloc; ClauseLit::Lit(atom_of_variable(alloc, negative)?)]?;
     let name = vec![in alloc; b'c']?;
     let variable = vec![in alloc; b'X']?;
     let variables = vec![in alloc; Text::new(variable)]?;
@@ -78,12 +89,21 @@ fn one_variable(alloc: Global, negative: bool) -> Result<Clause, NoMemory>
     })
 }
 
+// The table of `p` alone.
+fn one_table(alloc: Global) -> Result<Symbols, NoMemory>
+    ensures { IfOk result (λ table. table ≡ one_symbol) }
+{
+    let mut symbols = Symbols::new(alloc)?;
+    symbols.intern("p", 1, Kind::Word)?;
+    Ok(symbols)
+}
+
 // The input of this clause alone.
 fn one_input(alloc: Global, negative: bool) -> Result<Input, NoMemory> {
-    let symbols = Symbols::new(alloc)?;
+    let symbols = one_table(alloc)?;
     let file = vec![in alloc; b'f']?;
     let files = vec![in alloc; Text::new(file)]?;
-    let clauses = vec![in alloc; one_variable(alloc, negative)?]?;
+    let clauses = vec![in alloc; one_clause(alloc, negative)?]?;
     Ok(Input {
         symbols,
         files: Items::new(files),
@@ -98,7 +118,7 @@ fn one_negative_literal_makes_a_form(rt: HostRuntime) -> Result<(), Fail> {
     let problem = forms_of(alloc, &input)?;
     assert_eq!(rt; problem.forms.as_slice().len(), 1);
     let line = form_text(alloc, &problem, 1)?;
-    assert!(rt; line.as_slice() == b"form 1 c: X1 ->".as_slice());
+    assert!(rt; line.as_slice() == b"form 1 c: p(X1) ->".as_slice());
     Ok(())
 }
 

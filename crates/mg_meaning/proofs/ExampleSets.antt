@@ -42,9 +42,9 @@ q = positive (1 ∷ [])
 each_two_sets : All (IsClause two_sets.symbols 1) two_sets.clauses
 each_two_sets =
     All-cons (IsClause two_sets.symbols 1) (clause_of (plus (Sym 0 ∷ []) ∷ plus (Sym 1 ∷ []) ∷ []) [] []) (clause_of (minus (Sym 0 ∷ []) ∷ plus (Sym 1 ∷ []) ∷ []) [] [] ∷ [])
-    (ground_clause two_sets.symbols (plus (Sym 0 ∷ []) ∷ plus (Sym 1 ∷ []) ∷ []) [] refl refl refl (omega arith))
+    (ground_clause two_sets.symbols (plus (Sym 0 ∷ []) ∷ plus (Sym 1 ∷ []) ∷ []) [] refl refl refl refl (omega arith))
     (All-cons (IsClause two_sets.symbols 1) (clause_of (minus (Sym 0 ∷ []) ∷ plus (Sym 1 ∷ []) ∷ []) [] []) []
-    (ground_clause two_sets.symbols (minus (Sym 0 ∷ []) ∷ plus (Sym 1 ∷ []) ∷ []) [] refl refl refl (omega arith))
+    (ground_clause two_sets.symbols (minus (Sym 0 ∷ []) ∷ plus (Sym 1 ∷ []) ∷ []) [] refl refl refl refl (omega arith))
     (All-nil (IsClause two_sets.symbols 1)))
 
 two_real : IsProblem two_sets
@@ -95,11 +95,11 @@ each_ring : All (IsClause ring.symbols 1) ring.clauses
 each_ring =
     All-cons (IsClause ring.symbols 1) (clause_of (plus (Sym 0 ∷ []) ∷ plus (Sym 1 ∷ []) ∷ []) [] [])
     (clause_of (minus (Sym 0 ∷ []) ∷ plus (Sym 2 ∷ []) ∷ []) [] [] ∷ clause_of (minus (Sym 1 ∷ []) ∷ plus (Sym 2 ∷ []) ∷ []) [] [] ∷ [])
-    (ground_clause ring.symbols (plus (Sym 0 ∷ []) ∷ plus (Sym 1 ∷ []) ∷ []) [] refl refl refl (omega arith))
+    (ground_clause ring.symbols (plus (Sym 0 ∷ []) ∷ plus (Sym 1 ∷ []) ∷ []) [] refl refl refl refl (omega arith))
     (All-cons (IsClause ring.symbols 1) (clause_of (minus (Sym 0 ∷ []) ∷ plus (Sym 2 ∷ []) ∷ []) [] []) (clause_of (minus (Sym 1 ∷ []) ∷ plus (Sym 2 ∷ []) ∷ []) [] [] ∷ [])
-    (ground_clause ring.symbols (minus (Sym 0 ∷ []) ∷ plus (Sym 2 ∷ []) ∷ []) [] refl refl refl (omega arith))
+    (ground_clause ring.symbols (minus (Sym 0 ∷ []) ∷ plus (Sym 2 ∷ []) ∷ []) [] refl refl refl refl (omega arith))
     (All-cons (IsClause ring.symbols 1) (clause_of (minus (Sym 1 ∷ []) ∷ plus (Sym 2 ∷ []) ∷ []) [] []) []
-    (ground_clause ring.symbols (minus (Sym 1 ∷ []) ∷ plus (Sym 2 ∷ []) ∷ []) [] refl refl refl (omega arith))
+    (ground_clause ring.symbols (minus (Sym 1 ∷ []) ∷ plus (Sym 2 ∷ []) ∷ []) [] refl refl refl refl (omega arith))
     (All-nil (IsClause ring.symbols 1))))
 
 ring_real : IsProblem ring
@@ -152,11 +152,11 @@ r_a = positive (3 ∷ 0 ∷ [])
 each_constrained : All (IsClause constrained.symbols 1) constrained.clauses
 each_constrained =
     All-cons (IsClause constrained.symbols 1) (clause_of (plus (Sym 1 ∷ Sym 0 ∷ []) ∷ []) [] []) ((clause_of (plus (Sym 2 ∷ Sym 0 ∷ []) ∷ plus (Sym 3 ∷ Sym 0 ∷ []) ∷ []) [] []) ∷ (clause_of (minus (Sym 1 ∷ Sym 0 ∷ []) ∷ minus (Sym 2 ∷ Sym 0 ∷ []) ∷ []) [] ((2 ∷ []) ∷ [])) ∷ [])
-    (ground_clause constrained.symbols (plus (Sym 1 ∷ Sym 0 ∷ []) ∷ []) [] refl refl refl (omega arith))
+    (ground_clause constrained.symbols (plus (Sym 1 ∷ Sym 0 ∷ []) ∷ []) [] refl refl refl refl (omega arith))
     (All-cons (IsClause constrained.symbols 1) (clause_of (plus (Sym 2 ∷ Sym 0 ∷ []) ∷ plus (Sym 3 ∷ Sym 0 ∷ []) ∷ []) [] []) ((clause_of (minus (Sym 1 ∷ Sym 0 ∷ []) ∷ minus (Sym 2 ∷ Sym 0 ∷ []) ∷ []) [] ((2 ∷ []) ∷ [])) ∷ [])
-    (ground_clause constrained.symbols (plus (Sym 2 ∷ Sym 0 ∷ []) ∷ plus (Sym 3 ∷ Sym 0 ∷ []) ∷ []) [] refl refl refl (omega arith))
+    (ground_clause constrained.symbols (plus (Sym 2 ∷ Sym 0 ∷ []) ∷ plus (Sym 3 ∷ Sym 0 ∷ []) ∷ []) [] refl refl refl refl (omega arith))
     (All-cons (IsClause constrained.symbols 1) (clause_of (minus (Sym 1 ∷ Sym 0 ∷ []) ∷ minus (Sym 2 ∷ Sym 0 ∷ []) ∷ []) [] ((2 ∷ []) ∷ [])) []
-    (ground_clause constrained.symbols (minus (Sym 1 ∷ Sym 0 ∷ []) ∷ minus (Sym 2 ∷ Sym 0 ∷ []) ∷ []) ((2 ∷ []) ∷ []) refl refl refl (omega arith))
+    (ground_clause constrained.symbols (minus (Sym 1 ∷ Sym 0 ∷ []) ∷ minus (Sym 2 ∷ Sym 0 ∷ []) ∷ []) ((2 ∷ []) ∷ []) refl refl refl refl (omega arith))
     (All-nil (IsClause constrained.symbols 1))))
 
 constrained_real : IsProblem constrained

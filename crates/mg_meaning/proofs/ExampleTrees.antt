@@ -35,7 +35,7 @@ twice = problem_of (word_symbol 112 0 ∷ []) (clause_of (plus (Sym 0 ∷ []) �
 each_twice : All (IsClause twice.symbols 1) twice.clauses
 each_twice =
     All-cons (IsClause twice.symbols 1) (clause_of (plus (Sym 0 ∷ []) ∷ plus (Sym 0 ∷ []) ∷ []) [] []) []
-    (ground_clause twice.symbols (plus (Sym 0 ∷ []) ∷ plus (Sym 0 ∷ []) ∷ []) [] refl refl refl (omega arith))
+    (ground_clause twice.symbols (plus (Sym 0 ∷ []) ∷ plus (Sym 0 ∷ []) ∷ []) [] refl refl refl refl (omega arith))
     (All-nil (IsClause twice.symbols 1))
 
 twice_real : IsProblem twice
@@ -65,9 +65,9 @@ endless = problem_of (word_symbol 97 0 ∷ word_symbol 102 1 ∷ word_symbol 112
 each_endless : All (IsClause endless.symbols 1) endless.clauses
 each_endless =
     All-cons (IsClause endless.symbols 1) (clause_of (plus (Sym 2 ∷ Sym 0 ∷ []) ∷ []) [] []) (clause_of (minus (Sym 2 ∷ Var 0 ∷ []) ∷ plus (Sym 2 ∷ Sym 1 ∷ Var 0 ∷ []) ∷ []) ((88 ∷ []) ∷ []) [] ∷ [])
-    (ground_clause endless.symbols (plus (Sym 2 ∷ Sym 0 ∷ []) ∷ []) [] refl refl refl (omega arith))
+    (ground_clause endless.symbols (plus (Sym 2 ∷ Sym 0 ∷ []) ∷ []) [] refl refl refl refl (omega arith))
     (All-cons (IsClause endless.symbols 1) (clause_of (minus (Sym 2 ∷ Var 0 ∷ []) ∷ plus (Sym 2 ∷ Sym 1 ∷ Var 0 ∷ []) ∷ []) ((88 ∷ []) ∷ []) []) []
-    (clause_of_one endless.symbols (minus (Sym 2 ∷ Var 0 ∷ []) ∷ plus (Sym 2 ∷ Sym 1 ∷ Var 0 ∷ []) ∷ []) refl refl (omega arith))
+    (clause_of_one endless.symbols (minus (Sym 2 ∷ Var 0 ∷ []) ∷ plus (Sym 2 ∷ Sym 1 ∷ Var 0 ∷ []) ∷ []) refl refl refl (omega arith))
     (All-nil (IsClause endless.symbols 1)))
 
 endless_real : IsProblem endless

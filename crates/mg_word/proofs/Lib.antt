@@ -13,3 +13,4 @@ pub mod SpelledNames
 pub mod SpelledTerms
 pub mod SpelledWords
 pub mod Spellings
+pub mod SymbolNumbers

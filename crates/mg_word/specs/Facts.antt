@@ -1,5 +1,5 @@
 -- What contracts see of an input and of a problem, and the facts that their types keep.
-use Rattle.std.specs.Prelude.{◌≡◌, ℕ, ◌<◌, ◌≤◌, Bool, true, false, ◌&&◌, nat_eq, nat_lt, nat_le, List, [], ◌∷◌, length, All, IsTrue, IsSorted}
+use Rattle.std.specs.Prelude.{◌≡◌, ◌≢◌, ℕ, ◌<◌, ◌≤◌, Bool, true, false, ◌&&◌, nat_eq, nat_lt, nat_le, List, [], ◌∷◌, length, All, AllPairs, IsTrue, IsSorted}
 use Rattle.std.specs.List.{list_all, flat_map}
 use Rattle.std.specs.Option.{option_map_or}
 use Rattle.mg_word.specs.Table.{Symbol}
@@ -8,6 +8,8 @@ use Rattle.mg_word.specs.Words.{pattern_fits, numbered}
 use Rattle.mg_word.specs.Forms.{conclusions_of, forms_of, is_among, is_restricted, pattern_variables}
 use Rattle.mg_word.specs.declared.symbol.Kind.{Kind}
 use Rattle.mg_word.specs.declared.symbol.Kind.TheVariants.{Word, Integer, Distinct}
+use Rattle.mg_word.specs.declared.item.Item.{Item}
+use Rattle.mg_word.specs.declared.item.Item.TheVariants.{Sym, Var}
 use Rattle.mg_word.specs.declared.clause.ClauseLit.{ClauseLit}
 use Rattle.mg_word.specs.declared.clause.ClauseLit.TheVariants.{True, False, Lit as Literal}
 use Rattle.mg_word.specs.declared.clause.Clause.{Clause}
@@ -56,6 +58,18 @@ literal_fits table variables True = true
 literal_fits table variables False = true
 literal_fits table variables (Literal lit) = pattern_fits table variables lit.pattern
 
+-- the pattern begins with a symbol, so that it is an atom and no variable
+abbrev pub begins_with_symbol : List Item → Bool
+begins_with_symbol [] = false
+begins_with_symbol (Sym symbol ∷ items) = true
+begins_with_symbol (Var variable ∷ items) = false
+
+-- the literal is `$true`, `$false`, or an atom with a sign
+abbrev pub has_atom : ClauseLit → Bool
+has_atom True = true
+has_atom False = true
+has_atom (Literal lit) = begins_with_symbol lit.pattern
+
 abbrev pub literal_variables : ClauseLit → List ℕ
 literal_variables True = []
 literal_variables False = []
@@ -85,6 +99,8 @@ most_conclusions = 64
 pub record IsClause (table : List Symbol) (files : ℕ) (clause : Clause) : Type 0 where
   -- its literals fit the symbols, and its variables are those below their number
   pub fitting : IsTrue (list_all (literal_fits table (length clause.variables)) clause.literals)
+  -- none of its literals is a variable
+  pub atoms : IsTrue (list_all has_atom clause.literals)
   -- each variable is in a literal
   pub occurring : (variable : ℕ) → variable < length clause.variables → IsTrue (is_among (flat_map literal_variables clause.literals) variable)
   -- each item chooses literals in written order
@@ -99,6 +115,8 @@ pub record IsClause (table : List Symbol) (files : ℕ) (clause : Clause) : Type
 -- what holds of the symbols, the files and the clauses of each input
 pub record IsInput (table : List Symbol) (files : List (List ℕ)) (clauses : List Clause) : Type 0 where
   pub named : IsTrue (list_all is_symbol table)
+  -- no two of its symbols are one
+  pub different : AllPairs (λ a b. a ≢ b) table
   pub each : All (IsClause table (length files)) clauses
   pub few : length clauses ≤ most_parts
 

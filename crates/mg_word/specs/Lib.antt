@@ -4,6 +4,7 @@ pub mod Held
 pub mod OneSpelling
 pub mod OrderLaws
 pub mod Orders
+pub mod ProblemLaws
 pub mod Seen
 pub mod Sets
 pub mod Spelling

@@ -14,6 +14,7 @@ mod memory;
 mod orders;
 mod pattern;
 mod problem;
+mod problem_laws;
 mod same;
 mod spelling;
 mod spelling_laws;
@@ -35,6 +36,7 @@ pub use memory::NoMemory;
 pub use orders::{lit_cmp, lits_cmp, weight, word_cmp};
 pub use pattern::Pattern;
 pub use problem::Problem;
+pub use problem_laws::numbers_are_in_symbol_order;
 pub use spelling::{lit_text, push_lit, push_name, push_pattern_lit, push_word, word_text};
 pub use spelling_laws::{
     lits_are_spelled_apart, symbols_are_spelled_apart, words_are_spelled_apart,
