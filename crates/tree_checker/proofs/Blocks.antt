@@ -42,7 +42,7 @@ BlocksClose-more forms blocks i block at before closes j other below other_at =
     j below other other_at
 
 -- the whole document's verdict is that of the root, once the blocks close
-pub verdict_at_end : (problem : ProblemData) (doc : Doc) (first : ℕ) (result : Result (Unit {0}) Reject) → BlocksClose problem.forms doc.lemmas (length doc.lemmas) → first ≡ lines_before doc.lemmas + 2
+pub verdict_at_end : (problem : ProblemData) (doc : Doc) (first : ℕ) (result : Result (Unit {0}) Reject) → BlocksClose problem.forms doc.lemmas (length doc.lemmas) → first ≡ lines_before doc.lemmas + 1 + 1
     → MatchResult result (λ _. Closes problem.forms (lemmas_of doc.lemmas) empty_branch doc.root) (RejectsAt problem.forms (lemmas_of doc.lemmas) empty_branch doc.root first)
     → MatchResult result (λ _. Accepts problem doc) (Rejects problem doc)
 verdict_at_end problem doc first (Ok unit) blocks line told = record { blocks = blocks; root = told }

@@ -72,7 +72,7 @@ take-front lits front last n counted within is =
 pub goals_of-none : (held barred : List Lit) (frame : Frame) → frame.later.items ≡ [] → goals_of held barred frame ≡ []
 goals_of-none held barred frame none = rw none refl
 
--- the frame goes on to its next child: its literal takes the place of the last one, which is barred from then on
+-- the frame goes on to its next child: its literal stands in for the last one, which is barred from then on
 module _ (held barred front held' barred' : List Lit) (frames : List Frame) (frame next : Frame) (closed lit : Lit)
     (nested : AreNested 0 0 (frames ++ frame ∷ []) (length held) (length barred))
     (own : take frame.held held ≡ front ++ closed ∷ [])

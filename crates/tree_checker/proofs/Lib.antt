@@ -1,11 +1,11 @@
 pub mod Blocks
+pub mod FirstIndices
 pub mod Frames
 pub mod Larger
 pub mod LineFacts
 pub mod Lines
 pub mod Opened
 pub mod Openings
-pub mod Places
 pub mod Refuting
 pub mod Shapes
 pub mod Soundness

@@ -48,7 +48,7 @@ module _ (forms : List Form) (lemmas : List Pair) where
   abbrev pub Closes : Branch → List TreeLine → Type 0
   Closes branch lines = (trees : Trees) × (preorder trees ≡ lines) × Close (branch ∷ []) trees
 
-  -- of the lines of one tree from this branch, that at the place is the first that breaks a rule, and it breaks that rule first
+  -- of the lines of one tree from this branch, the one with that index is the first that breaks a rule, and it breaks that rule first
   pub record FirstBreak (start : Branch) (lines : List TreeLine) (at : ℕ) (why : Why) : Type 0 where
     pub trees : Trees
     pub same : preorder trees ≡ lines

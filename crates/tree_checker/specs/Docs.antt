@@ -2,6 +2,7 @@
 use Rattle.std.specs.Prelude.{◌≡◌, ℕ, ◌+◌, ◌^◌, ◌<◌, ◌≤◌, List, [], ◌∷◌, length, take, map, All, IsSome, IsTrue, Some, slice_get, ◌⊎◌}
 use Rattle.mg_word.specs.Table.{Symbol}
 use Rattle.mg_word.specs.Words.{fits, numbered}
+use Rattle.mg_word.specs.Sets.{is_rising}
 use Rattle.mg_word.specs.Facts.{ProblemData}
 use Rattle.mg_word.specs.declared.lit.Lit.{Lit}
 use Rattle.mg_word.specs.declared.form.Form.{Form}
@@ -39,12 +40,12 @@ IsWordOf table word = IsTrue (fits table word) × (length word ≤ most_symbols)
 abbrev pub AreLitsOf : List Symbol → List Lit → Type 0
 AreLitsOf table lits = All (λ lit. IsWordOf table lit.word) lits
 
--- the terms and literals of the line are words of the table
+-- the terms and literals of the line are words of the table, and its number of a block fits 32 bits
 abbrev pub LineFits : List Symbol → TreeLine → Type 0
 LineFits table (FormLine number terms) = All (IsWordOf table) terms
 LineFits table (Clash lit) = IsWordOf table lit.word
 LineFits table (Barred lit) = IsWordOf table lit.word
-LineFits table (By number) = Unit {0}
+LineFits table (By number) = number < 2 ^ 32
 
 -- the form of the line is there
 abbrev pub IsKnown : List Form → TreeLine → Type 0
@@ -59,16 +60,33 @@ pub record AreLines (problem : ProblemData) (lines : List TreeLine) : Type 0 whe
   pub known : All (IsKnown problem.forms) lines
   pub tree : IsTree problem.forms lines
 
--- the literals of a block are words of the problem, and so is its tree
+-- the literals are words of the table, and rise strictly
+pub record IsLemmaSet (table : List Symbol) (lits : List Lit) : Type 0 where
+  pub words : AreLitsOf table lits
+  pub rising : IsTrue (is_rising lits)
+
+-- the sets of a block are sets of the problem's literals, and its tree is one of the problem
 pub record IsBlock (problem : ProblemData) (block : LemmaBlock) : Type 0 where
-  pub inside : AreLitsOf problem.symbols block.inside
-  pub outside : AreLitsOf problem.symbols block.outside
+  pub inside : IsLemmaSet problem.symbols block.inside
+  pub outside : IsLemmaSet problem.symbols block.outside
   pub lines : AreLines problem block.tree
 
--- how many lines a text has up to the end of these blocks: the header, and for each block three lines and its tree
+-- the lines before all blocks: the header
+abbrev pub header_lines : ℕ
+header_lines = 1
+
+-- the lines of a block before its tree: its number, its inside and its outside
+abbrev pub block_lines : ℕ
+block_lines = 3
+
+-- the lines of the root before its tree: the word `root`
+abbrev pub root_lines : ℕ
+root_lines = 1
+
+-- how many lines a text has up to the end of these blocks
 abbrev pub lines_before : List LemmaBlock → ℕ
-lines_before [] = 1
-lines_before (block ∷ blocks) = lines_before blocks + (3 + length block.tree)
+lines_before [] = header_lines
+lines_before (block ∷ blocks) = lines_before blocks + (block_lines + length block.tree)
 
 -- the document is one of the problem: the condition of all that is said of documents
 pub record IsWellFormed (problem : ProblemData) (doc : Doc) : Type 0 where
@@ -77,7 +95,7 @@ pub record IsWellFormed (problem : ProblemData) (doc : Doc) : Type 0 where
   -- numbers of blocks fit 32 bits
   pub few : length doc.lemmas < 2 ^ 32
   -- and those of lines 63: all before the root's, one for the root and those of its tree
-  pub short : lines_before doc.lemmas + 1 + length doc.root < 2 ^ 63
+  pub short : lines_before doc.lemmas + root_lines + length doc.root < 2 ^ 63
 
 -- of the first n blocks, each one's tree closes from its own sets, with the blocks before it as lemmas
 abbrev pub BlocksClose : List Form → List LemmaBlock → ℕ → Type 0
@@ -94,18 +112,18 @@ abbrev pub RejectsAt : List Form → List Pair → Branch → List TreeLine → 
 RejectsAt forms lemmas start lines first (Line line why) = (at : ℕ) × (line ≡ first + at) × FirstBreak forms lemmas start lines at why
 RejectsAt forms lemmas start lines first NoMemory = Unit {0}
 
--- the first broken line is in the block with this index: the tree begins three lines after the block does
+-- the first broken line is in the tree of the block with this index
 pub record InBlock (problem : ProblemData) (doc : Doc) (reject : Reject) : Type 0 where
   pub at : ℕ
   pub block : LemmaBlock
   pub block_is : slice_get doc.lemmas at ≡ Some block
   pub before : BlocksClose problem.forms doc.lemmas at
-  pub rejects : RejectsAt problem.forms (lemmas_of (take at doc.lemmas)) (branch_of block) block.tree (lines_before (take at doc.lemmas) + 4) reject
+  pub rejects : RejectsAt problem.forms (lemmas_of (take at doc.lemmas)) (branch_of block) block.tree (lines_before (take at doc.lemmas) + block_lines + 1) reject
 
--- the first broken line is in the root's tree, which begins one line after the root does
+-- the first broken line is in the root's tree
 pub record InRoot (problem : ProblemData) (doc : Doc) (reject : Reject) : Type 0 where
   pub before : BlocksClose problem.forms doc.lemmas (length doc.lemmas)
-  pub rejects : RejectsAt problem.forms (lemmas_of doc.lemmas) empty_branch doc.root (lines_before doc.lemmas + 2) reject
+  pub rejects : RejectsAt problem.forms (lemmas_of doc.lemmas) empty_branch doc.root (lines_before doc.lemmas + root_lines + 1) reject
 
 -- the answer names the first line that breaks a rule and the first rule that it breaks, or that memory ran out
 abbrev pub Rejects : ProblemData → Doc → Reject → Type 0

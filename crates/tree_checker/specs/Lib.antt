@@ -4,7 +4,7 @@ pub mod Faults
 pub mod Inside
 pub mod Instances
 pub mod Openings
-pub mod Places
+pub mod Indices
 pub mod Samples
 pub mod Trees
 pub mod Walks

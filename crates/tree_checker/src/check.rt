@@ -14,6 +14,13 @@ use crate::{Doc, LemmaBlock, Reject, TreeLine};
 use mg_word::{Form, Lit, Problem};
 use std::alloc::Global;
 
+/// The lines before all blocks: the header.
+const HEADER_LINES: u64 = 1;
+/// The lines of a block before its tree: its number, its inside and its outside.
+const BLOCK_LINES: u64 = 3;
+/// The lines of the root before its tree: the word `root`.
+const ROOT_LINES: u64 = 1;
+
 fn reject_line(fault: LineFault, line: u64) -> Reject
     ensures { result ≡ rejected line fault }
 {
@@ -74,24 +81,24 @@ pub fn check_doc(alloc: Global, problem: &Problem, doc: &Doc) -> Result<(), Reje
 {
     let forms = problem.forms.as_slice();
     let blocks = doc.lemmas.as_slice();
-    let mut first = 5;
+    let mut done = HEADER_LINES;
     for (j, block) in blocks.iter().enumerate() {
-        let inside = block.inside.as_slice();
-        let outside = block.outside.as_slice();
+        let held = block.inside.as_slice();
+        let barred = block.outside.as_slice();
         let lines = block.tree.as_slice();
         match check_tree(
             alloc,
             forms,
             before(blocks, j),
-            inside,
-            outside,
+            held,
+            barred,
             lines,
-            first,
+            done + BLOCK_LINES + 1,
         ) {
             Ok(()) => {}
             Err(reject) => return Err(reject),
         }
-        first += 3 + lines.len() as u64;
+        done += BLOCK_LINES + lines.len() as u64;
     }
     check_tree(
         alloc,
@@ -100,6 +107,6 @@ pub fn check_doc(alloc: Global, problem: &Problem, doc: &Doc) -> Result<(), Reje
         &[],
         &[],
         doc.root.as_slice(),
-        first - 2,
+        done + ROOT_LINES + 1,
     )
 }

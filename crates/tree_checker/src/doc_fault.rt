@@ -1,6 +1,7 @@
 //! Why a text is not a document.
 
 use mg_word::NoMemory;
+use thiserror::Error;
 
 /// What is wrong with a line.
 #[derive(Clone, Copy, Debug, PartialEq, Eq)]
@@ -28,11 +29,13 @@ pub enum DocKind {
 }
 
 /// Why a text is not a document.
-#[derive(Clone, Copy, Debug, PartialEq, Eq)]
+#[derive(Clone, Copy, Debug, PartialEq, Eq, Error)]
 pub enum DocFault {
     /// The first line with a fault, counted from 1 without the lines that begin with `%`.
+    #[error("a line of the document is wrong")]
     Line { line: u64, kind: DocKind },
     /// Memory ran out.
+    #[error("out of memory")]
     NoMemory,
 }
 

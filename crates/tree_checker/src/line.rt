@@ -140,7 +140,7 @@ fn check_by(
     Ok(())
 }
 
-/// Checks a line against the next branch, and puts the branches of its children in that one's place. The blocks are
+/// Checks a line against the next branch, and puts the branches of its children in that one's stead. The blocks are
 /// those that it may name.
 pub fn check_line(
     alloc: Global,

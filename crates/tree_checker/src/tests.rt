@@ -2,7 +2,7 @@
 
 ghost use Rattle.std.specs.Prelude.{◌≡◌, ◌≤◌, [], ◌∷◌, false, true, IfOk, IsTrue, length, if◌then◌else◌};
 ghost use Rattle.tree_checker.specs.Trees.{conclusions_at};
-ghost use Rattle.tree_checker.specs.Docs.{AreLines, AreLitsOf, IsBlock, LineFits, IsKnown};
+ghost use Rattle.tree_checker.specs.Docs.{AreLines, AreLitsOf, IsBlock, IsLemmaSet, LineFits, IsKnown};
 ghost use Rattle.tree_checker.specs.Samples.{symbol_p, literal_p, clause_p, form_p, sample};
 
 use crate::{Doc, LemmaBlock, Reject, TreeLine, Why, check_doc};
@@ -135,7 +135,10 @@ fn fits(line: &TreeLine) -> bool
         }
         TreeLine::Clash(lit) => is_p(&lit.word),
         TreeLine::Barred(lit) => is_p(&lit.word),
-        TreeLine::By(_) => true,
+        TreeLine::By(number) => {
+            let _number = *number;
+            true
+        }
     }
 }
 
@@ -208,14 +211,18 @@ fn are_p(lits: &[Lit]) -> bool
     lits.iter().all(|lit| is_p(&lit.word))
 }
 
+fn is_lemma_set(lits: &LitSet) -> bool
+    ensures { IsTrue result → IsLemmaSet sample.symbols lits.now }
+{
+    are_p(lits.as_slice())
+}
+
 // Whether the block is one over the words of the problem, with few lines.
 fn is_block(block: &LemmaBlock) -> bool
     ensures block { IsTrue result → IsBlock sample block.now }
     ensures few { IsTrue result → length block.now.tree ≤ 1000000 }
 {
-    are_p(block.inside.as_slice())
-        && are_p(block.outside.as_slice())
-        && is_tree(block.tree.as_slice())
+    is_lemma_set(&block.inside) && is_lemma_set(&block.outside) && is_tree(block.tree.as_slice())
 }
 
 // The answer for a document with these two lemmas.

@@ -12,7 +12,7 @@ use std::marker::Model;
 #[derive(Drop)]
 pub struct Trail {
     lits: Vec<Lit>,
-    /// For each literal the place where it first stands.
+    /// For each literal the index where it first stands.
     first: BTreeMap<Lit, usize>,
 }
 
@@ -22,7 +22,7 @@ impl Model for Trail {
 
     ghost Value = { List Lit };
 
-    ghost use Rattle.tree_checker.specs.Places.{IsTrail};
+    ghost use Rattle.tree_checker.specs.Indices.{IsTrail};
 
     ghost view = { λ trail. trail.lits.items };
 
@@ -64,9 +64,9 @@ impl Trail {
             return Ok(());
         }
         let key = lit.copy()?;
-        let place = self.lits.len();
+        let index = self.lits.len();
         self.lits.push(lit)?;
-        match self.first.insert(key, place) {
+        match self.first.insert(key, index) {
             Ok(_) => Ok(()),
             Err(_) => {
                 let _ = self.lits.pop();

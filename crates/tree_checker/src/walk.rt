@@ -66,19 +66,27 @@ impl Walk {
         &self.barred
     }
 
-    /// Puts a branch for each conclusion in the place of the next one. After an error the walk is of no use.
+    /// Puts a branch for each conclusion in the stead of the next one. After an error the walk is of no use.
     pub fn split(&mut self, mut conclusions: Vec<Lit>) -> Result<(), NoMemory>
         requires { self.old ≢ [] }
         ensures { OnOk result (self.new ≡ split_by (next_of self.old) conclusions.items ++ after_next self.old) }
     {
         conclusions.reverse();
-        self.is_done = true;
-        self.is_done = !begin_first(
+        let begun = begin_first(
             &mut self.held,
             &mut self.barred,
             &mut self.frames,
             conclusions,
-        )?;
-        Ok(())
+        );
+        match begun {
+            Ok(is_more) => {
+                self.is_done = !is_more;
+                Ok(())
+            }
+            Err(NoMemory) => {
+                self.is_done = true;
+                Err(NoMemory)
+            }
+        }
     }
 }

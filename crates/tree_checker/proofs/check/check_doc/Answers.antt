@@ -29,8 +29,20 @@ check_tree-requires-clause-short c =
     let long = ap length c.as_slice-lines.ensures in
     omega (arith, room, same, long, c.loop-j.invariant.line)
 
-pub overflow_add-first-in-loop-j : goal.overflow_add-first-in-loop-j
-overflow_add-first-in-loop-j c =
+pub overflow_add-done : goal.overflow_add-done
+overflow_add-done c =
+    let room = block_room c.as_slice-blocks.result.now c.loop-j.j c.index-blocks-j.result c.loop-j-test.true c.index-blocks-j.is in
+    let same = ap lines_before c.as_slice-blocks.ensures in
+    omega (arith, room, same, c.loop-j.invariant.line)
+
+pub overflow_add-done-in-loop-j : goal.overflow_add-done-in-loop-j
+overflow_add-done-in-loop-j c =
+    let room = block_room c.as_slice-blocks.result.now c.loop-j.j c.index-blocks-j.result c.loop-j-test.true c.index-blocks-j.is in
+    let same = ap lines_before c.as_slice-blocks.ensures in
+    omega (arith, room, same, c.loop-j.invariant.line)
+
+pub overflow_add-done-in-loop-j-3 : goal.overflow_add-done-in-loop-j-3
+overflow_add-done-in-loop-j-3 c =
     let room = block_room c.as_slice-blocks.result.now c.loop-j.j c.index-blocks-j.result c.loop-j-test.true c.index-blocks-j.is in
     let same = ap lines_before c.as_slice-blocks.ensures in
     let long = ap length c.as_slice-lines.ensures in
@@ -41,7 +53,7 @@ loop-j-preserved c =
     let at = slice_get_read c.as_slice-blocks.result.now (length c.as_slice-blocks.result.now) c.loop-j.j c.index-blocks-j.result refl c.loop-j-test.true c.index-blocks-j.is in
     let line = block_line c.as_slice-blocks.result.now c.loop-j.j c.index-blocks-j.result c.loop-j-test.true c.index-blocks-j.is in
     let long = ap length c.as_slice-lines.ensures in
-    let closes = rw (c.before-in-loop-j.ensures, c.as_slice-inside.ensures.same, c.as_slice-outside.ensures.same, c.as_slice-lines.ensures) at c.in-Ok.ensures in
+    let closes = rw (c.before-in-loop-j.ensures, c.as_slice-held.ensures.same, c.as_slice-barred.ensures.same, c.as_slice-lines.ensures) at c.in-Ok.ensures in
     record {
       before = BlocksClose-more c.as_slice-forms.result.now c.as_slice-blocks.result.now c.loop-j.j c.index-blocks-j.result at c.loop-j.invariant.before closes;
       line = omega (arith, line, long, c.loop-j.invariant.line);
@@ -51,7 +63,7 @@ pub returns-in-Err-clause-verdict : goal.returns-in-Err-clause-verdict
 returns-in-Err-clause-verdict c =
     let at = slice_get_read c.as_slice-blocks.result.now (length c.as_slice-blocks.result.now) c.loop-j.j c.index-blocks-j.result refl c.loop-j-test.true c.index-blocks-j.is in
     let forms = c.as_slice-forms.ensures ∙ ap (λ p. p.forms) c.problem.view_is in
-    let rejects = rw (c.before-in-loop-j.ensures, c.as_slice-inside.ensures.same, c.as_slice-outside.ensures.same, c.as_slice-lines.ensures, c.loop-j.invariant.line) at c.in-Err.ensures in
+    let rejects = rw (c.before-in-loop-j.ensures, c.as_slice-held.ensures.same, c.as_slice-barred.ensures.same, c.as_slice-lines.ensures, c.loop-j.invariant.line) at c.in-Err.ensures in
     inl (record {
       at = c.loop-j.j;
       block = c.index-blocks-j.result;
@@ -66,10 +78,10 @@ returns-clause-verdict c =
     let whole = take_all c.loop-j.j c.as_slice-blocks.result.now past in
     let long = ap length c.as_slice-blocks.ensures in
     let forms = c.as_slice-forms.ensures ∙ ap (λ p. p.forms) c.problem.view_is in
-    let line : c.loop-j.first - 2 ≡ lines_before c.args.doc.now.lemmas + 2 =
+    let line : c.loop-j.done + 1 + 1 ≡ lines_before c.args.doc.now.lemmas + 1 + 1 =
     let is = ap lines_before (whole ∙ c.as_slice-blocks.ensures) in omega (arith, c.loop-j.invariant.line, is) in
     let before = rw (forms, c.as_slice-blocks.ensures) at c.loop-j.invariant.before in
-    verdict_at_end c.args.problem.now c.args.doc.now (c.loop-j.first - 2) c.check_tree-2.result
+    verdict_at_end c.args.problem.now c.args.doc.now (c.loop-j.done + 1 + 1) c.check_tree-2.result
     (λ k block small at. before k block (omega (arith, past, long, small)) at) line
     (rw (forms, c.as_slice-blocks.ensures, c.as_slice.ensures) at c.check_tree-2.ensures)
 

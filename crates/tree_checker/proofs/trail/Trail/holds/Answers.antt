@@ -1,7 +1,7 @@
 use Rattle.std.proofs.Common.{ap, ◌∙◌}
 use Rattle.std.specs.Option.{is_some}
-use Rattle.tree_checker.proofs.Places.{place_held}
+use Rattle.tree_checker.proofs.FirstIndices.{index_held}
 use Rattle.tree_checker.proofs.trail.Trail.holds.Goals as goal
 
 pub returns : goal.returns
-returns c = rw (← c.self.view_is) (c.contains_key.ensures ∙ ap is_some (c.self.invariant c.args.lit.now) ∙ place_held c.self.inside.lits.items c.args.lit.now)
+returns c = rw (← c.self.view_is) (c.contains_key.ensures ∙ ap is_some (c.self.invariant c.args.lit.now) ∙ index_held c.self.inside.lits.items c.args.lit.now)

@@ -7,11 +7,11 @@ use Rattle.mg_word.specs.Sets.{same_lit}
 use Rattle.mg_word.specs.declared.lit.Lit.{Lit}
 use Rattle.tree_checker.specs.declared.trail.Trail.TheInside.{Inside}
 
--- the first place of the literal, counted from 0
-abbrev pub place_of : List Lit → Lit → Option ℕ
-place_of [] lit = None
-place_of (held ∷ lits) lit = if same_lit held lit then Some 0 else option_map (λ place. place + 1) (place_of lits lit)
+-- the first index of the literal, counted from 0
+abbrev pub index_of : List Lit → Lit → Option ℕ
+index_of [] lit = None
+index_of (held ∷ lits) lit = if same_lit held lit then Some 0 else option_map (λ index. index + 1) (index_of lits lit)
 
--- the map gives the first place of each literal
+-- the map gives the first index of each literal
 abbrev pub IsTrail : Inside → Type 0
-IsTrail trail = (lit : Lit) → get lit_cmp trail.first lit ≡ place_of trail.lits.items lit
+IsTrail trail = (lit : Lit) → get lit_cmp trail.first lit ≡ index_of trail.lits.items lit
