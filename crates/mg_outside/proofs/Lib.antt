@@ -1,2 +1,3 @@
 mod KnownBytes
 mod NamedFiles
+pub mod Ends

@@ -6,9 +6,8 @@ use Rattle.std.specs.Str.{bytes_eq}
 use Rattle.std.specs.declared.vec.Vec.{Vec}
 use Rattle.std.specs.declared.alloc.Global.{Global}
 use Rattle.mg_outside.specs.Causes.{one_more}
-use Rattle.mg_outside.specs.Counting.{no_counts, counted}
+use Rattle.mg_outside.specs.Counting.{Counts, no_counts, counted}
 use Rattle.mg_outside.specs.Reading.{Table, told_answer}
-use Rattle.mg_outside.specs.declared.counts.Counts.{Counts}
 use Rattle.mg_outside.specs.declared.files.ReadAnswer.{ReadAnswer}
 use Rattle.mg_outside.specs.declared.files.ReadAnswer.TheVariants.{Failed}
 

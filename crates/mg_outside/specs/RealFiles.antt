@@ -1,5 +1,5 @@
 -- What a clause reads of real files.
-use Rattle.mg_outside.specs.declared.counts.Counts.{Counts}
+use Rattle.mg_outside.specs.Counting.{Counts}
 use Rattle.mg_outside.specs.declared.std_files.StdFiles.{StdFiles}
 
 -- the counts of the reads so far

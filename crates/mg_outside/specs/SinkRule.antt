@@ -1,8 +1,9 @@
 -- The exact rule of a sink in memory.
-use Rattle.std.specs.Prelude.{ℕ, ◌-◌, nat_lt, nat_eq, ◌||◌, Bool, List, [], ◌++◌, length, take, min, Option, is_some, unwrap_or, if◌then◌else◌}
+use Rattle.std.specs.Prelude.{ℕ, ◌-◌, nat_lt, nat_eq, ◌||◌, Bool, List, [], ◌++◌, length, take, min, Option, Some, is_some, unwrap_or, if◌then◌else◌}
 use Rattle.std.specs.List.{find}
 use Rattle.std.specs.Option.{option_map}
 use Rattle.mg_outside.specs.Causes.{one_more}
+use Rattle.mg_outside.specs.Putting.{SinkSeen}
 use Rattle.mg_outside.specs.declared.memory_sink.FailAt.{FailAt}
 use Rattle.mg_outside.specs.declared.sink.PutAnswer.{PutAnswer}
 use Rattle.mg_outside.specs.declared.sink.PutAnswer.TheVariants.{Done, Failed}
@@ -14,6 +15,10 @@ pub record SinkState : Type 0 where
   pub failing : List FailAt
   pub calls : ℕ
   pub faults : ℕ
+
+-- it tells what it holds, and counts the puts that failed
+abbrev pub told_seen : SinkState → SinkSeen
+told_seen sink = record { held = Some sink.held; faults = sink.faults }
 
 -- a sink that nothing was put into yet
 abbrev pub new_sink : ℕ → List FailAt → SinkState

@@ -3,23 +3,32 @@
 ghost use Rattle.std.specs.Prelude.{◌≡◌};
 
 use crate::ReadAnswer;
+use std::marker::Model;
 
-/// How many reads failed, found no file, and found more bytes than were allowed. A count stands
-/// still at the end of its type.
+/// Counts the reads that failed, that found no file, and that found more bytes than were allowed. A
+/// count stands still at the end of its type.
 #[derive(Drop)]
-pub(crate) struct Counts {
+pub(crate) struct ReadCounter {
     faults: u64,
     absences: u64,
     overruns: u64,
 }
 
-impl Counts {
-    ghost use Rattle.mg_outside.specs.Counting.{no_counts, counted, NoneFell};
+impl Model for ReadCounter {
+    ghost use Rattle.mg_outside.specs.Counting.{Counts};
 
-    pub(crate) fn new() -> Counts
+    ghost Value = { Counts };
+
+    ghost view = { λ c. record { faults = c.faults; absences = c.absences; overruns = c.overruns } };
+}
+
+impl ReadCounter {
+    ghost use Rattle.mg_outside.specs.Counting.{no_counts, counted};
+
+    pub(crate) fn new() -> ReadCounter
         ensures { result ≡ no_counts }
     {
-        Counts {
+        ReadCounter {
             faults: 0,
             absences: 0,
             overruns: 0,
@@ -28,8 +37,7 @@ impl Counts {
 
     // Counts the answer of a read. A whole file and want of memory are not counted.
     pub(crate) fn count(&mut self, answer: ReadAnswer)
-        ensures counted { self.new ≡ counted answer self.old }
-        ensures later { NoneFell self.old self.new }
+        ensures { self.new ≡ counted answer self.old }
     {
         match answer {
             ReadAnswer::Absent => self.absences = self.absences.saturating_add(1),

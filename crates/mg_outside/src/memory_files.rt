@@ -1,14 +1,14 @@
 //! Files in memory that fail at the calls that they are told to, for tests.
 
-ghost use Rattle.std.specs.Prelude.{◌≡◌, ◌≤◌, [], Some, IfSome, IsOkAnd};
+ghost use Rattle.std.specs.Prelude.{◌≡◌, ◌≢◌, [], Some, IfSome, IsOkAnd};
 ghost use Rattle.std.specs.List.{find};
 ghost use Rattle.std.specs.Option.{option_map, option_copied};
 ghost use Rattle.std.specs.Str.{bytes_eq};
-ghost use Rattle.mg_outside.specs.Causes.{Rose};
-ghost use Rattle.mg_outside.specs.Reading.{TakesFile, IsAbsent, IsTooLong, OnDone, OnAbsent, OnTooLong, OnFailed, OnNoMemory, UnlessDone, UnlessNoMemory, UnlessStopped, told_answer};
+ghost use Rattle.mg_outside.specs.Counting.{counted};
+ghost use Rattle.mg_outside.specs.Reading.{TakesFile, IsAbsent, IsTooLong, told_answer};
 ghost use Rattle.mg_outside.specs.FilesRule.{named_files, file_named, new_files, read_answer, after_read};
 
-use crate::counts::Counts;
+use crate::counts::ReadCounter;
 use crate::{Files, ReadAnswer};
 use mg_word::{NoMemory, Text};
 use std::marker::Model;
@@ -20,7 +20,7 @@ pub struct MemoryFiles {
     /// The numbers of the calls that fail, from 1.
     failing: Vec<u64>,
     calls: u64,
-    counts: Counts,
+    counts: ReadCounter,
 }
 
 impl Model for MemoryFiles {
@@ -41,7 +41,7 @@ impl MemoryFiles {
             files,
             failing,
             calls: 0,
-            counts: Counts::new(),
+            counts: ReadCounter::new(),
         })
     }
 }
@@ -69,28 +69,22 @@ fn find_file<'a>(files: &'a [(Text, Vec<u8>)], name: &str) -> Option<&'a [u8]>
 impl Files for MemoryFiles {
     ghost table = { λ m. Some (file_named m.files) };
 
-    ghost faults = { λ m. m.counts.faults };
-
-    ghost absences = { λ m. m.counts.absences };
-
-    ghost overruns = { λ m. m.counts.overruns };
+    ghost counts = { λ m. m.counts };
 
     fn read(&mut self, name: &str, limit: u64, into: &mut Vec<u8>) -> ReadAnswer
         ensures same { Some (file_named self.new.files) ≡ Some (file_named self.old.files) }
-        ensures faults { self.old.counts.faults ≤ self.new.counts.faults }
-        ensures absences { self.old.counts.absences ≤ self.new.counts.absences }
-        ensures overruns { self.old.counts.overruns ≤ self.new.counts.overruns }
-        ensures done { OnDone result (TakesFile (Some (file_named self.old.files)) name.now limit into.old.items into.new.items) }
-        ensures absent { OnAbsent result (IsAbsent (Some (file_named self.old.files)) name.now self.old.counts.absences self.new.counts.absences) }
-        ensures too_long { OnTooLong result (IsTooLong (Some (file_named self.old.files)) name.now limit self.old.counts.overruns self.new.counts.overruns) }
-        ensures failed { OnFailed result (Rose self.old.counts.faults self.new.counts.faults) }
-        ensures as_before { UnlessDone result (into.new.items ≡ into.old.items) }
-        ensures exact { UnlessStopped result (IfSome (Some (file_named self.old.files)) (λ files. result ≡ told_answer (files name.now) limit)) }
+        ensures counted { self.new.counts ≡ counted result self.old.counts }
+        ensures done { result ≡ ReadAnswer.Done → TakesFile (Some (file_named self.old.files)) name.now limit into.old.items into.new.items }
+        ensures absent { result ≡ ReadAnswer.Absent → IsAbsent (Some (file_named self.old.files)) name.now }
+        ensures too_long { result ≡ ReadAnswer.TooLong → IsTooLong (Some (file_named self.old.files)) name.now limit }
+        ensures as_before { result ≢ ReadAnswer.Done → into.new.items ≡ into.old.items }
+        ensures exact { result ≢ ReadAnswer.Failed → result ≢ ReadAnswer.NoMemory
+            → IfSome (Some (file_named self.old.files)) (λ files. result ≡ told_answer (files name.now) limit) }
 
         // Beyond the trait: the answer is the rule's, but that memory may run out at the append.
-        ensures answer { UnlessNoMemory result (result ≡ read_answer self.old name.now limit) }
-        ensures memory { OnNoMemory result (read_answer self.old name.now limit ≡ ReadAnswer.Done) }
-        ensures spared { self.old.failing ≡ [] → OnFailed result ⊥ }
+        ensures answer { result ≢ ReadAnswer.NoMemory → result ≡ read_answer self.old name.now limit }
+        ensures memory { result ≡ ReadAnswer.NoMemory → read_answer self.old name.now limit ≡ ReadAnswer.Done }
+        ensures spared { self.old.failing ≡ [] → result ≢ ReadAnswer.Failed }
         ensures after { self.new ≡ after_read self.old name.now limit }
     {
         self.calls = self.calls.saturating_add(1);

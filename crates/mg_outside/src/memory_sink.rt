@@ -1,9 +1,8 @@
 //! A sink in memory that fails at the calls that it is told to, for tests.
 
-ghost use Rattle.std.specs.Prelude.{◌≡◌, ◌≤◌, ◌+◌, ◌++◌, vec_capacity, vec_len, Some, IfOk, length, take};
-ghost use Rattle.mg_outside.specs.Causes.{Rose};
-ghost use Rattle.mg_outside.specs.Putting.{Gained, TookFront, OnAllPut, OnPutFailed};
-ghost use Rattle.mg_outside.specs.SinkRule.{taken_at, put_answer, after_put, new_sink};
+ghost use Rattle.std.specs.Prelude.{◌≡◌, ◌≤◌, ◌+◌, ◌++◌, vec_capacity, vec_len, IfOk, length, take};
+ghost use Rattle.mg_outside.specs.Putting.{Puts};
+ghost use Rattle.mg_outside.specs.SinkRule.{taken_at, put_answer, after_put, new_sink, told_seen};
 
 use crate::{PutAnswer, Sink};
 use mg_word::NoMemory;
@@ -87,15 +86,10 @@ fn find_taken(failing: &[FailAt], call: u64) -> Option<u64>
 }
 
 impl Sink for MemorySink {
-    ghost held = { λ m. Some m.held };
-
-    ghost faults = { λ m. m.faults };
+    ghost seen = { λ m. told_seen m };
 
     fn put(&mut self, bytes: &[u8]) -> PutAnswer
-        ensures faults { self.old.faults ≤ self.new.faults }
-        ensures done { OnAllPut result (Gained (Some self.old.held) (Some self.new.held) bytes.now) }
-        ensures failed { OnPutFailed result (TookFront (Some self.old.held) (Some self.new.held) bytes.now) }
-        ensures cause { OnPutFailed result (Rose self.old.faults self.new.faults) }
+        ensures puts { Puts result (told_seen self.old) (told_seen self.new) bytes.now }
 
         // Beyond the trait: the answer and what is held are the rule's.
         ensures answer { result ≡ put_answer self.old bytes.now }

@@ -1,8 +1,6 @@
 //! Where bytes are put.
 
-ghost use Rattle.std.specs.Prelude.{◌≤◌, List, ℕ, Option};
-ghost use Rattle.mg_outside.specs.Causes.{Rose};
-ghost use Rattle.mg_outside.specs.Putting.{Gained, TookFront, OnAllPut, OnPutFailed};
+ghost use Rattle.mg_outside.specs.Putting.{SinkSeen, Puts};
 
 /// What a put answers.
 #[derive(Clone, Copy, Debug, PartialEq, Eq)]
@@ -15,16 +13,11 @@ pub enum PutAnswer {
 
 /// Where bytes are put, each piece behind the pieces before it.
 pub trait Sink {
-    /// All bytes taken so far, where they are told.
-    ghost held: { Self → Option (List ℕ) };
+    /// All bytes taken so far, where they are told, and how many puts failed.
+    ghost seen: { Self → SinkSeen };
 
-    /// How many puts failed.
-    ghost faults: { Self → ℕ };
-
-    /// Appends the bytes. On `Failed` it appended the first of them, maybe none or all.
+    /// Appends the bytes. On `Failed` it appended the first of them, maybe none or all. A failed put
+    /// is counted, and nothing else is.
     fn put(&mut self, bytes: &[u8]) -> PutAnswer
-        ensures faults { faults self.old ≤ faults self.new }
-        ensures done { OnAllPut result (Gained (held self.old) (held self.new) bytes.now) }
-        ensures failed { OnPutFailed result (TookFront (held self.old) (held self.new) bytes.now) }
-        ensures cause { OnPutFailed result (Rose (faults self.old) (faults self.new)) };
+        ensures { Puts result (seen self.old) (seen self.new) bytes.now };
 }

@@ -1,16 +1,15 @@
 //! Real files, whose content no clause tells.
 
-ghost use Rattle.std.specs.Prelude.{◌≡◌, ◌≤◌, ◌<◌, ◌+◌, ◌++◌, ◌-◌, ◌^◌, None, IfSome, length};
+ghost use Rattle.std.specs.Prelude.{◌≡◌, ◌≢◌, ◌≤◌, ◌<◌, ◌+◌, ◌++◌, ◌-◌, ◌^◌, None, IfSome, length};
 ghost use Rattle.std.specs.Io.{ReadsAtMost};
 ghost use Rattle.std.specs.Io.KnownBytes.{ReadConsumes};
 ghost use Rattle.std.specs.IoError.{error_kind};
-ghost use Rattle.mg_outside.specs.Reading.{TakesFile, IsAbsent, IsTooLong, Extends, OnDone, OnAbsent, OnTooLong, OnFailed, UnlessDone, UnlessStopped, told_answer, untold};
-ghost use Rattle.mg_outside.specs.Causes.{Rose};
-ghost use Rattle.mg_outside.specs.Counting.{counted};
+ghost use Rattle.mg_outside.specs.Reading.{TakesFile, IsAbsent, IsTooLong, Extends, told_answer, untold};
+ghost use Rattle.mg_outside.specs.Counting.{counted, no_counts};
 ghost use Rattle.mg_outside.specs.RealFiles.{counts_of};
 ghost use Rattle.mg_outside.specs.RealErrors.{unread_answer, unopened_answer};
 
-use crate::counts::Counts;
+use crate::counts::ReadCounter;
 use crate::{Files, ReadAnswer};
 use std::io::{self, ErrorKind, Read};
 use std::{fs, rt};
@@ -27,27 +26,25 @@ const BUFFER_LEN: usize = 32 * 1024;
 #[derive(Drop)]
 pub struct StdFiles<'a, R> {
     runtime: &'a R,
-    counts: Counts,
+    counts: ReadCounter,
 }
 
 impl<'a, R: rt::Files + Alloc> StdFiles<'a, R> {
     /// The files that this runtime reaches.
     pub fn new(rt: &'a R) -> StdFiles<'a, R>
         ensures untold { ⟦<StdFiles<'a, R> as Files>⟧.table result ≡ None }
-        ensures faults { ⟦<StdFiles<'a, R> as Files>⟧.faults result ≡ 0 }
-        ensures absences { ⟦<StdFiles<'a, R> as Files>⟧.absences result ≡ 0 }
-        ensures overruns { ⟦<StdFiles<'a, R> as Files>⟧.overruns result ≡ 0 }
+        ensures counts { ⟦<StdFiles<'a, R> as Files>⟧.counts result ≡ no_counts }
     {
         StdFiles {
             runtime: rt,
-            counts: Counts::new(),
+            counts: ReadCounter::new(),
         }
     }
 }
 
 // What an error of reading answers.
 fn unread(error: &io::Error) -> ReadAnswer
-    ensures none { OnDone result ⊥ × OnTooLong result ⊥ × OnAbsent result ⊥ }
+    ensures none { (result ≢ ReadAnswer.Done) × (result ≢ ReadAnswer.TooLong) × (result ≢ ReadAnswer.Absent) }
     ensures value { result ≡ unread_answer (error_kind error.now) }
 {
     match error.kind() {
@@ -58,7 +55,7 @@ fn unread(error: &io::Error) -> ReadAnswer
 
 // What an error of opening answers.
 fn unopened(error: &io::Error) -> ReadAnswer
-    ensures none { OnDone result ⊥ × OnTooLong result ⊥ }
+    ensures none { (result ≢ ReadAnswer.Done) × (result ≢ ReadAnswer.TooLong) }
     ensures value { result ≡ unopened_answer (error_kind error.now) }
 {
     match error.kind() {
@@ -85,11 +82,11 @@ fn read_some<F: Read>(file: &mut F, buffer: &mut [u8]) -> io::Result<usize>
 // Appends what the reader gives until its end, where that is at most `limit` bytes.
 fn append_all<F: Read>(file: &mut F, limit: u64, into: &mut Vec<u8>) -> ReadAnswer
     ensures extends { Extends into.old.items into.new.items }
-    ensures within { OnDone result (length into.new.items ≤ length into.old.items + limit) }
-    ensures limited { OnTooLong result (limit < 2 ^ 64 - 1) }
-    ensures whole { OnDone result (IfSome (F.remaining file.old) (λ bytes. into.new.items ≡ into.old.items ++ bytes)) }
-    ensures longer { OnTooLong result (IfSome (F.remaining file.old) (λ bytes. limit < length bytes)) }
-    ensures present { OnAbsent result ⊥ }
+    ensures within { result ≡ ReadAnswer.Done → (length into.new.items ≤ length into.old.items + limit) }
+    ensures limited { result ≡ ReadAnswer.TooLong → (limit < 2 ^ 64 - 1) }
+    ensures whole { result ≡ ReadAnswer.Done → (IfSome (F.remaining file.old) (λ bytes. into.new.items ≡ into.old.items ++ bytes)) }
+    ensures longer { result ≡ ReadAnswer.TooLong → (IfSome (F.remaining file.old) (λ bytes. limit < length bytes)) }
+    ensures present { result ≢ ReadAnswer.Absent }
 {
     let mut buffer = [0u8; BUFFER_LEN];
     let mut left = limit;
@@ -113,9 +110,9 @@ fn append_all<F: Read>(file: &mut F, limit: u64, into: &mut Vec<u8>) -> ReadAnsw
 
 // Appends the whole file of this path, or leaves `into` as it was.
 fn read_path<R: rt::Files>(runtime: &R, path: &str, limit: u64, into: &mut Vec<u8>) -> ReadAnswer
-    ensures done { OnDone result (TakesFile untold path.now limit into.old.items into.new.items) }
-    ensures limited { OnTooLong result (limit < 2 ^ 64 - 1) }
-    ensures as_before { UnlessDone result (into.new.items ≡ into.old.items) }
+    ensures done { result ≡ ReadAnswer.Done → (TakesFile untold path.now limit into.old.items into.new.items) }
+    ensures limited { result ≡ ReadAnswer.TooLong → (limit < 2 ^ 64 - 1) }
+    ensures as_before { result ≢ ReadAnswer.Done → into.new.items ≡ into.old.items }
 {
     let start = into.len();
     let mut file = match fs::open(runtime, path) {
@@ -132,26 +129,17 @@ fn read_path<R: rt::Files>(runtime: &R, path: &str, limit: u64, into: &mut Vec<u
 impl<R: rt::Files + Alloc> Files for StdFiles<'_, R> {
     ghost table = { λ _. untold };
 
-    ghost faults = { λ s. (counts_of s).faults };
-
-    ghost absences = { λ s. (counts_of s).absences };
-
-    ghost overruns = { λ s. (counts_of s).overruns };
+    ghost counts = { λ s. counts_of s };
 
     fn read(&mut self, name: &str, limit: u64, into: &mut Vec<u8>) -> ReadAnswer
         ensures same { untold ≡ untold }
-        ensures faults { (counts_of self.old).faults ≤ (counts_of self.new).faults }
-        ensures absences { (counts_of self.old).absences ≤ (counts_of self.new).absences }
-        ensures overruns { (counts_of self.old).overruns ≤ (counts_of self.new).overruns }
-        ensures done { OnDone result (TakesFile untold name.now limit into.old.items into.new.items) }
-        ensures absent { OnAbsent result (IsAbsent untold name.now (counts_of self.old).absences (counts_of self.new).absences) }
-        ensures too_long { OnTooLong result (IsTooLong untold name.now limit (counts_of self.old).overruns (counts_of self.new).overruns) }
-        ensures failed { OnFailed result (Rose (counts_of self.old).faults (counts_of self.new).faults) }
-        ensures as_before { UnlessDone result (into.new.items ≡ into.old.items) }
-        ensures exact { UnlessStopped result (IfSome untold (λ files. result ≡ told_answer (files name.now) limit)) }
-
-        // Beyond the trait: each count moves with its answer alone.
         ensures counted { counts_of self.new ≡ counted result (counts_of self.old) }
+        ensures done { result ≡ ReadAnswer.Done → TakesFile untold name.now limit into.old.items into.new.items }
+        ensures absent { result ≡ ReadAnswer.Absent → IsAbsent untold name.now }
+        ensures too_long { result ≡ ReadAnswer.TooLong → IsTooLong untold name.now limit }
+        ensures as_before { result ≢ ReadAnswer.Done → into.new.items ≡ into.old.items }
+        ensures exact { result ≢ ReadAnswer.Failed → result ≢ ReadAnswer.NoMemory
+            → IfSome untold (λ files. result ≡ told_answer (files name.now) limit) }
     {
         let answer = read_path(self.runtime, name, limit, into);
         self.counts.count(answer);

@@ -1,10 +1,9 @@
 //! A real writer, whose content no clause tells.
 
-ghost use Rattle.std.specs.Prelude.{◌≡◌, ◌≤◌, None, OnOk};
+ghost use Rattle.std.specs.Prelude.{◌≡◌, None, OnOk};
 ghost use Rattle.std.specs.Io.KnownBytes.{Appends};
-ghost use Rattle.mg_outside.specs.Causes.{Rose};
-ghost use Rattle.mg_outside.specs.Putting.{Gained, TookFront, OnAllPut, OnPutFailed};
-ghost use Rattle.mg_outside.specs.Writers.{writer_of, faults_of};
+ghost use Rattle.mg_outside.specs.Putting.{SinkSeen, Puts};
+ghost use Rattle.mg_outside.specs.Writers.{writer_of, untold_seen};
 
 use crate::{PutAnswer, Sink};
 use std::io::{self, Write};
@@ -22,8 +21,7 @@ pub struct StdSink<W> {
 impl<W: Write + Drop> StdSink<W> {
     /// A sink over this writer.
     pub fn new(writer: W) -> StdSink<W>
-        ensures untold { ⟦<StdSink<W> as Sink>⟧.held result ≡ None }
-        ensures faults { ⟦<StdSink<W> as Sink>⟧.faults result ≡ 0 }
+        ensures { ⟦<StdSink<W> as Sink>⟧.seen result ≡ record { held = None; faults = 0 } }
     {
         StdSink { writer, faults: 0 }
     }
@@ -38,19 +36,13 @@ fn write_through<W: Write>(writer: &mut W, bytes: &[u8]) -> io::Result<()>
 }
 
 impl<W: Write + Drop> Sink for StdSink<W> {
-    ghost held = { λ _. None };
-
-    ghost faults = { λ s. faults_of s };
+    ghost seen = { λ s. untold_seen s };
 
     fn put(&mut self, bytes: &[u8]) -> PutAnswer
-        ensures faults { faults_of self.old ≤ faults_of self.new }
-        ensures done { OnAllPut result (Gained None None bytes.now) }
-        ensures failed { OnPutFailed result (TookFront None None bytes.now) }
-        ensures cause { OnPutFailed result (Rose (faults_of self.old) (faults_of self.new)) }
+        ensures puts { Puts result (untold_seen self.old) (untold_seen self.new) bytes.now }
 
-        // Beyond the trait: `Done` wrote all to a writer whose bytes are known, and counts nothing.
-        ensures written { OnAllPut result (Appends (W.contents (writer_of self.old)) (W.contents (writer_of self.new)) bytes.now) }
-        ensures counted { OnAllPut result (faults_of self.new ≡ faults_of self.old) }
+        // Beyond the trait: `Done` wrote all to a writer whose bytes are known.
+        ensures written { result ≡ PutAnswer.Done → Appends (W.contents (writer_of self.old)) (W.contents (writer_of self.new)) bytes.now }
     {
         if write_through(&mut self.writer, bytes).is_ok() {
             return PutAnswer::Done;
