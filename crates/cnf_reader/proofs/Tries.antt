@@ -56,16 +56,16 @@ module _ (told : Option Table) (name : List ℕ) (limit : ℕ) (before now : Cou
         fits = subst (λ l. length l ≤ limit) (sym is) takes.within;
       }
 
-  pub try_absent : IsAbsent told name before.absences now.absences → IsTry told name limit before now TriedAbsent
-  try_absent absent =
-      let found = found_with told name None absent.told in
-      record { finding = found.0; gives = λ next. rw (found.1, found.2) refl; counts = (found.2, absent.cause); fits = tt }
+  pub try_absent : IsAbsent told name → Rose before.absences now.absences → IsTry told name limit before now TriedAbsent
+  try_absent absent cause =
+      let found = found_with told name None absent in
+      record { finding = found.0; gives = λ next. rw (found.1, found.2) refl; counts = (found.2, cause); fits = tt }
 
-  pub try_too_long : IsTooLong told name limit before.overruns now.overruns → IsTry told name limit before now TriedTooLong
-  try_too_long long =
+  pub try_too_long : IsTooLong told name limit → Rose before.overruns now.overruns → IsTry told name limit before now TriedTooLong
+  try_too_long long cause =
       let found = long_with told name limit long.told in
       let past : nat_le (length found.1.0) limit ≡ false = passes (length found.1.0) limit found.1.2 in
-      record { finding = found.0; gives = λ next. rw (found.1.1, found.2, past) refl; counts = (found.2, long.cause); fits = tt }
+      record { finding = found.0; gives = λ next. rw (found.1.1, found.2, past) refl; counts = (found.2, cause); fits = tt }
 
   pub try_failed : Rose before.faults now.faults → IsTry told name limit before now TriedFailed
   try_failed cause = let found = failing told in record { finding = found.0; gives = λ next. rw found.1 refl; counts = (found.1, cause); fits = tt }

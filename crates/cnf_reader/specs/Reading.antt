@@ -3,6 +3,7 @@ use Rattle.std.specs.Prelude.{◌≡◌, ◌⊎◌, ℕ, zero, suc, ◌+◌, ◌
 use Rattle.mg_word.specs.Facts.{InputData}
 use Rattle.mg_word.specs.declared.clause.Name.{Name}
 use Rattle.mg_outside.specs.Causes.{Rose}
+pub use Rattle.mg_outside.specs.Counting.{Counts}
 use Rattle.mg_outside.specs.Reading.{Table}
 use Rattle.tptp_lexer.specs.Tokens.{tokens_of}
 use Rattle.tptp_lexer.specs.Spots.{spot_at}
@@ -190,16 +191,6 @@ pub record FailsFirst (told : Option Table) (name : List ℕ) (root : Option (Li
   pub world : World
   pub files : AreTold told world
   pub reading : reading_of world root name ≡ Err fault
-
--- the counts of failed reads, of reads that found no file, and of reads that found too long a file
-pub record Counts : Type 0 where
-  pub faults : ℕ
-  pub absences : ℕ
-  pub overruns : ℕ
-
--- these three counts of files
-abbrev pub counts_of : {F : Type 0} → (F → ℕ) → (F → ℕ) → (F → ℕ) → F → Counts
-counts_of faults absences overruns files = record { faults = faults files; absences = absences files; overruns = overruns files }
 
 -- which count has risen with a fault of this kind
 abbrev pub HasRisen : ReadKind → Counts → Counts → Type 0

@@ -2,7 +2,6 @@
 
 ghost use Rattle.std.specs.Prelude.{◌≡◌, ◌≤◌, IfOk};
 ghost use Rattle.cnf_reader.specs.Openings.{IsTry, IsOpening, names_tried};
-ghost use Rattle.cnf_reader.specs.Reading.{counts_of};
 
 use crate::names::Tries;
 use mg_outside::{Files, ReadAnswer};
@@ -37,12 +36,12 @@ fn try_name<F: Files>(
     limit: u64,
 ) -> Result<Tried, NoMemory>
     ensures same { F.table files.new ≡ F.table files.old }
-    ensures faults { F.faults files.old ≤ F.faults files.new }
-    ensures absences { F.absences files.old ≤ F.absences files.new }
-    ensures overruns { F.overruns files.old ≤ F.overruns files.new }
+    ensures faults { (F.counts files.old).faults ≤ (F.counts files.new).faults }
+    ensures absences { (F.counts files.old).absences ≤ (F.counts files.new).absences }
+    ensures overruns { (F.counts files.old).overruns ≤ (F.counts files.new).overruns }
     ensures tried { IfOk result (λ tried. IsTry (F.table files.old) name.now limit
-        (counts_of F.faults F.absences F.overruns files.old)
-        (counts_of F.faults F.absences F.overruns files.new) tried) }
+        (F.counts files.old)
+        (F.counts files.new) tried) }
 {
     let mut bytes = Vec::new(alloc);
     match files.read(name, limit, &mut bytes) {
@@ -62,12 +61,12 @@ pub fn open<F: Files>(
     limit: u64,
 ) -> Result<Found, NoMemory>
     ensures same { F.table files.new ≡ F.table files.old }
-    ensures faults { F.faults files.old ≤ F.faults files.new }
-    ensures absences { F.absences files.old ≤ F.absences files.new }
-    ensures overruns { F.overruns files.old ≤ F.overruns files.new }
+    ensures faults { (F.counts files.old).faults ≤ (F.counts files.new).faults }
+    ensures absences { (F.counts files.old).absences ≤ (F.counts files.new).absences }
+    ensures overruns { (F.counts files.old).overruns ≤ (F.counts files.new).overruns }
     ensures opened { IfOk result (λ found. IsOpening (F.table files.old) (names_tried tries) limit
-        (counts_of F.faults F.absences F.overruns files.old)
-        (counts_of F.faults F.absences F.overruns files.new) found) }
+        (F.counts files.old)
+        (F.counts files.new) found) }
 {
     let Tries { first, second } = tries;
     match try_name(alloc, files, first.as_str(), limit)? {

@@ -1,7 +1,7 @@
 -- Reads one after another: what their counts say together.
-use Rattle.std.proofs.Common.{◌≡◌, ◌≢◌, ℕ, ◌≤◌, ◌∙◌, refl, ap, arith}
-use Rattle.mg_outside.specs.Causes.{one_more}
-use Rattle.mg_outside.specs.Counting.{Counts, OnlyAbsences, ReadsEnd, SomeFailed, counted}
+use Rattle.std.proofs.Common.{◌≡◌, ◌≢◌, ℕ, ◌≤◌, ◌∙◌, refl, ap, subst, arith}
+use Rattle.mg_outside.specs.Causes.{Rose, one_more}
+use Rattle.mg_outside.specs.Counting.{Counts, OnlyAbsences, ReadsEnd, SomeFailed, NoneFell, counted}
 use Rattle.mg_outside.specs.declared.files.ReadAnswer.{ReadAnswer}
 use Rattle.mg_outside.specs.declared.files.ReadAnswer.TheVariants.{Done, Absent, TooLong, Failed, NoMemory}
 
@@ -45,8 +45,32 @@ none_failed TooLong before now fine reads = ap (λ counts. counts.faults) reads.
 none_failed Failed before now fine reads = absurd (fine refl)
 none_failed NoMemory before now fine reads = ap (λ counts. counts.faults) reads.last ∙ reads.earlier.faults
 
--- a failed read is counted
-pub failed_counted : (before now : Counts) → ReadsEnd Failed before now → SomeFailed before now
-failed_counted before now reads =
-    let faults : now.faults ≡ _ = ap (λ counts. counts.faults) reads.last in
-    let earlier : reads.between.faults ≡ before.faults = reads.earlier.faults in omega arith
+-- what each answer counts
+pub absent_counted : (before now : Counts) → now ≡ counted Absent before → Rose before.absences now.absences
+absent_counted before now last = rw last (omega arith)
+
+pub too_long_counted : (before now : Counts) → now ≡ counted TooLong before → Rose before.overruns now.overruns
+too_long_counted before now last = rw last (omega arith)
+
+pub failed_counted : (before now : Counts) → now ≡ counted Failed before → SomeFailed before now
+failed_counted before now last = rw last (omega arith)
+
+-- the same of the last of some reads
+pub absent_last : (before now : Counts) → ReadsEnd Absent before now → Rose before.absences now.absences
+absent_last before now reads =
+    let rose : Rose reads.between.absences now.absences = absent_counted reads.between now reads.last in
+    let earlier : before.absences ≤ reads.between.absences = reads.earlier.absences in omega arith
+
+pub too_long_last : (before now : Counts) → ReadsEnd TooLong before now → Rose before.overruns now.overruns
+too_long_last before now reads = subst (λ count. Rose count now.overruns) reads.earlier.overruns (too_long_counted reads.between now reads.last)
+
+pub failed_last : (before now : Counts) → ReadsEnd Failed before now → SomeFailed before now
+failed_last before now reads = subst (λ count. Rose count now.faults) reads.earlier.faults (failed_counted reads.between now reads.last)
+
+-- a read lets no count fall
+pub none_fell : (answer : ReadAnswer) (before now : Counts) → now ≡ counted answer before → NoneFell before now
+none_fell Done before now last = rw last (record { faults = omega arith; absences = omega arith; overruns = omega arith })
+none_fell Absent before now last = rw last (record { faults = omega arith; absences = omega arith; overruns = omega arith })
+none_fell TooLong before now last = rw last (record { faults = omega arith; absences = omega arith; overruns = omega arith })
+none_fell Failed before now last = rw last (record { faults = omega arith; absences = omega arith; overruns = omega arith })
+none_fell NoMemory before now last = rw last (record { faults = omega arith; absences = omega arith; overruns = omega arith })

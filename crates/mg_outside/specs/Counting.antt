@@ -37,3 +37,9 @@ pub record ReadsEnd (answer : ReadAnswer) (before now : Counts) : Type 0 where
 -- a read failed, as far as the counts tell
 abbrev pub SomeFailed : Counts → Counts → Type 0
 SomeFailed before now = Rose before.faults now.faults
+
+-- no count fell
+pub record NoneFell (before now : Counts) : Type 0 where
+  pub faults : before.faults ≤ now.faults
+  pub absences : before.absences ≤ now.absences
+  pub overruns : before.overruns ≤ now.overruns

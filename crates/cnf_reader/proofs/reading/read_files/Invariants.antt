@@ -9,9 +9,9 @@ invariant-statements g l = record {
   reached : Reached (g.F.Files.table l.fn.files) (option_map (λ r. r.now) l.root) l.name l.selections l.kept (l.file ∷ l.outer);
   run : IsSoundRun l.kept (l.file ∷ l.outer);
   same : g.F.Files.table l.files ≡ g.F.Files.table l.fn.files;
-  faults : g.F.Files.faults l.fn.files ≤ g.F.Files.faults l.files;
-  absences : g.F.Files.absences l.fn.files ≤ g.F.Files.absences l.files;
-  overruns : g.F.Files.overruns l.fn.files ≤ g.F.Files.overruns l.files;
+  faults : (g.F.Files.counts l.fn.files).faults ≤ (g.F.Files.counts l.files).faults;
+  absences : (g.F.Files.counts l.fn.files).absences ≤ (g.F.Files.counts l.files).absences;
+  overruns : (g.F.Files.counts l.fn.files).overruns ≤ (g.F.Files.counts l.files).overruns;
 }
 
 abbrev pub decreases-statements : goal.decreases-statements
