@@ -1,7 +1,7 @@
 -- Where what is asked for is there and nothing fails, no other answer has its cause.
-use Rattle.std.proofs.Common.{◌≡◌, ℕ, List, Option, Some, None, refl, ◌∙◌, subst, inl, inr, ◌⊎◌}
+use Rattle.std.proofs.Common.{◌≡◌, ℕ, List, Option, Some, None, refl, ◌∙◌, subst, inl, inr, ◌⊎◌, arith}
 use Rattle.mg_word.specs.Facts.{InputData, ProblemData}
-use Rattle.mg_outside.specs.Causes.{Rose}
+use Rattle.mg_outside.specs.Causes.{Rose, one_more}
 use Rattle.mg_outside.specs.Reading.{Table}
 use Rattle.cnf_reader.specs.Reading.{Counts, Reads, StandsBy, HasRisen}
 use Rattle.cnf_reader.proofs.OneReading.{one_input, not_both}
@@ -14,11 +14,13 @@ use Rattle.clause_form.specs.declared.fault.FormFault.{FormFault}
 use Rattle.clause_form.proofs.Excluding.{fault_excluded as form_fault_excluded}
 use Rattle.tree_checker.specs.Docs.{Accepts}
 use Rattle.proof_tree.specs.DocText.{IsDocText}
-use Rattle.command_line.specs.Asking.{Request, Check, Forms, Asks}
-use Rattle.command_line.specs.Printing.{SinkSeen, Printed}
+use Rattle.command_line.specs.Asking.{Request, Check, Forms, Asks, problem_file}
+use Rattle.command_line.specs.Names.{name_of}
+use Rattle.mg_outside.specs.Putting.{SinkSeen}
+use Rattle.command_line.specs.Printing.{Printed}
 use Rattle.command_line.specs.Runs.{Outside, Runs}
 use Rattle.command_line.specs.Exact.{Succeeds, IsExact}
-use Rattle.command_line.specs.Answers.{HasCause, IsUnread, IsUnformed, IsProblemOf, IsAccepted, IsRejected, IsTreeUnread, status_of}
+use Rattle.command_line.specs.Answers.{HasCause, IsUnread, IsUnformed, IsProblemOf, IsAccepted, IsRejected, IsTreeUnread, answer_out, answer_err, tree_file, status_of}
 use Rattle.command_line.specs.declared.answer.Answer.{Answer}
 use Rattle.command_line.specs.declared.answer.Answer.TheVariants.{Unread, Unformed, TreeAbsent, TreeFailed, TreeUnread, Rejected, Accepted, Formed, MemoryOut}
 
@@ -86,7 +88,7 @@ unread_tree_excluded files file tree line kind accepted unread =
 done : (files : Table) (request : Request) (before now : Counts) (answer : Answer) → Succeeds files request → HasCause request (Some files) before now answer → (Rose before.faults now.faults → ⊥) → (status_of answer ≡ 0) ⊎ (status_of answer ≡ 4)
 done files (Check file tree) before now (Unread fault) there cause quiet = absurd (unread_excluded files file there.problem before now fault there.is cause quiet)
 done files (Check file tree) before now (Unformed input fault) there cause quiet = absurd (unformed_excluded files file there.problem input fault there.is cause)
-done files (Check file tree) before now TreeAbsent there (problem, is, absent) quiet = absurd (some_apart (files tree) there.text there.there absent.told)
+done files (Check file tree) before now TreeAbsent there (problem, is, absent, rose) quiet = absurd (some_apart (files tree) there.text there.there absent)
 done files (Check file tree) before now TreeFailed there (problem, is, rose) quiet = absurd (quiet rose)
 done files (Check file tree) before now (TreeUnread line kind) there cause quiet = absurd (unread_tree_excluded files file tree line kind there cause)
 done files (Check file tree) before now (Rejected line why) there cause quiet = absurd (rejected_excluded files file tree line why there cause)
@@ -103,11 +105,14 @@ done files (Forms file) before now Accepted there cause quiet = absurd cause
 done files (Forms file) before now (Formed problem) there cause quiet = inl refl
 done files (Forms file) before now MemoryOut there cause quiet = inr refl
 
+put_rose : (before now : ℕ) → now ≡ one_more before → Rose before now
+put_rose before now is = rw is (omega arith)
+
 -- where no put failed, the status is the answer's
 put_whole : (out out' err err' : SinkSeen) (lines messages : List (List ℕ)) (wanted status : ℕ) → Printed out out' err err' lines messages wanted status → (Rose out.faults out'.faults → ⊥) → (Rose err.faults err'.faults → ⊥) → status ≡ wanted
 put_whole out out' err err' lines messages wanted status (inl (first, second, is)) quiet silent = is
-put_whole out out' err err' lines messages wanted status (inr (inl (failed, second, is))) quiet silent = absurd (quiet failed.cause)
-put_whole out out' err err' lines messages wanted status (inr (inr (first, failed, is))) quiet silent = absurd (silent failed.cause)
+put_whole out out' err err' lines messages wanted status (inr (inl (failed, second, is))) quiet silent = absurd (quiet (put_rose _ _ failed.counted))
+put_whole out out' err err' lines messages wanted status (inr (inr (first, failed, is))) quiet silent = absurd (silent (put_rose _ _ failed.counted))
 
 -- the status of a run where what is asked for is there and nothing failed
 pub exact : (words : List (List ℕ)) (before now : Outside) (status : ℕ) → Runs words before now status → IsExact words before now status
@@ -115,5 +120,5 @@ exact words before now status (inl refused) request asks files told there none =
 exact words before now status (inr ran) request asks files told there none =
     let same = one_request words ran.request request ran.asks asks in
     let cause = subst (λ one. HasCause one (Some files) before.counts now.counts ran.answer) same (subst (λ one. HasCause ran.request one before.counts now.counts ran.answer) told ran.cause) in
-    let is = put_whole before.out now.out before.err now.err _ _ (status_of ran.answer) status ran.printed none.output none.messages in
+    let is = put_whole before.out now.out before.err now.err (answer_out (name_of (problem_file ran.request)) ran.answer) (answer_err (tree_file ran.request) ran.answer) (status_of ran.answer) status ran.printed none.output none.messages in
     elim (done files request before.counts now.counts ran.answer there cause none.reads) [ inl success ↦ inl (is ∙ success) | inr memory ↦ inr (is ∙ memory) ]

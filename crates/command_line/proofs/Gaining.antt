@@ -4,8 +4,8 @@ use Rattle.std.specs.List.{flat_map}
 use Rattle.std.proofs.Math.Seq.{take-append-add}
 use Rattle.std.proofs.lemmas.List.{take-append-le, take-append-drop, drop_more}
 use Rattle.std.proofs.lemmas.Grind.{flat_map-append}
-use Rattle.mg_outside.specs.Causes.{Rose}
-use Rattle.mg_outside.specs.Putting.{Gained, TookFront}
+use Rattle.mg_outside.specs.Causes.{Rose, one_more}
+use Rattle.mg_outside.specs.Putting.{SinkSeen, Gained, TookFront, AllPut, PutFailed}
 
 -- what is gained in two puts is gained in one
 pub Gained-append : (a b c : Option (List ℕ)) (xs ys : List ℕ) → Gained a b xs → Gained b c ys → Gained a c (xs ++ ys)
@@ -27,6 +27,17 @@ TookFront-append a b c xs piece rest first second =
       within = omega (arith, second.within, length-append xs (piece ++ rest), length-append piece rest);
       gained = rw front (Gained-append a b c xs (take second.count piece) first second.gained);
     }
+
+-- whole puts make a whole put
+pub AllPut-append : (a b c : SinkSeen) (xs ys : List ℕ) → AllPut a b xs → AllPut b c ys → AllPut a c (xs ++ ys)
+AllPut-append a b c xs ys first second = record { gained = Gained-append a.held b.held c.held xs ys first.gained second.gained; uncounted = second.uncounted ∙ first.uncounted }
+
+-- a put that fails behind a whole put
+pub PutFailed-append : (a b c : SinkSeen) (xs piece rest : List ℕ) → AllPut a b xs → PutFailed b c piece → PutFailed a c (xs ++ (piece ++ rest))
+PutFailed-append a b c xs piece rest first second = record {
+  front = TookFront-append a.held b.held c.held xs piece rest first.gained second.front;
+  counted = second.counted ∙ ap one_more first.uncounted;
+}
 
 -- the text of pieces before the piece at that place, its own, and that of the pieces behind it
 pub flat_map-split : {X : Type 0} (text : X → List ℕ) (pieces : List X) (i : ℕ) (d : X) → i < length pieces

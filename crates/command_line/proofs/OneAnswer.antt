@@ -62,7 +62,7 @@ unread_shown files request NoMemoryToRead before now (cause, known) quiet = absu
 shown : (files : Table) (request : Request) (answer : Answer) (before now : Counts) → HasCause request (Some files) before now answer → (Rose before.faults now.faults → ⊥) → answer ≢ MemoryOut → Shown files request answer
 shown files (Check file tree) (Unread fault) before now cause quiet enough = unread_shown files (Check file tree) fault before now cause quiet
 shown files (Check file tree) (Unformed input fault) before now cause quiet enough = unformed input fault refl cause.0 cause.1 cause.2
-shown files (Check file tree) TreeAbsent before now cause quiet enough = behind cause.0 cause.1 (absent refl cause.2.told)
+shown files (Check file tree) TreeAbsent before now cause quiet enough = behind cause.0 cause.1 (absent refl cause.2)
 shown files (Check file tree) TreeFailed before now cause quiet enough = absurd (quiet cause.2)
 shown files (Check file tree) (TreeUnread line kind) before now cause quiet enough = behind cause.problem cause.is.is (faulty line kind refl cause)
 shown files (Check file tree) (Rejected line why) before now cause quiet enough = behind cause.problem cause.is.is (broken line why refl cause)

@@ -32,7 +32,7 @@ pub tree_answered : (told : Option Table) (file tree : List ℕ) (before between
 tree_answered told file tree before between now problem (Unread fault) is faults absences tells = absurd tells
 tree_answered told file tree before between now problem (Unformed input fault) is faults absences tells = absurd tells
 tree_answered told file tree before between now problem TreeAbsent is faults absences tells =
-    (problem, is.is, record { cause = Rose-earlier before.absences between.absences now.absences absences tells.cause; told = tells.told })
+    (problem, is.is, tells.0, Rose-earlier before.absences between.absences now.absences absences tells.1)
 tree_answered told file tree before between now problem TreeFailed is faults absences tells = (problem, is.is, Rose-earlier before.faults between.faults now.faults faults tells)
 tree_answered told file tree before between now problem (TreeUnread line kind) is faults absences (text, there, unread) =
     record { problem = problem; is = is; text = text; there = there; faulty = unread.faulty; none = unread.none }

@@ -26,7 +26,8 @@ use Rattle.command_line.specs.Asking.{Request, Check, Forms, problem_file}
 use Rattle.command_line.specs.Names.{name_of}
 use Rattle.command_line.specs.Lines.{status_line, accepted_lines, rejected_line, kind_words, why_words, read_messages, form_messages, tree_message, faulty_clause}
 use Rattle.command_line.specs.FormLines.{forms_lines}
-use Rattle.command_line.specs.Printing.{SinkSeen, Printed}
+use Rattle.mg_outside.specs.Putting.{SinkSeen}
+use Rattle.command_line.specs.Printing.{Printed}
 use Rattle.command_line.specs.Troubles.{read_out}
 use Rattle.command_line.specs.declared.answer.Answer.{Answer}
 use Rattle.command_line.specs.declared.answer.Answer.TheVariants.{Unread, Unformed, TreeAbsent, TreeFailed, TreeUnread, Rejected, Accepted, Formed, MemoryOut}
@@ -88,7 +89,7 @@ IsUnformed told file input fault = Reads told file None input × Stands input.cl
 abbrev pub HasCause : Request → Option Table → Counts → Counts → Answer → Type 0
 HasCause (Check file tree) told before now (Unread fault) = IsUnread told file before now fault
 HasCause (Check file tree) told before now (Unformed input fault) = IsUnformed told file input fault
-HasCause (Check file tree) told before now TreeAbsent = (problem : ProblemData) × IsProblemOf told file problem × IsAbsent told tree before.absences now.absences
+HasCause (Check file tree) told before now TreeAbsent = (problem : ProblemData) × IsProblemOf told file problem × IsAbsent told tree × Rose before.absences now.absences
 HasCause (Check file tree) told before now TreeFailed = (problem : ProblemData) × IsProblemOf told file problem × Rose before.faults now.faults
 HasCause (Check file tree) told before now (TreeUnread line kind) = IsTreeUnread told file tree line kind
 HasCause (Check file tree) told before now (Rejected line why) = IsRejected told file tree line why

@@ -66,7 +66,7 @@ IsTextAnswer problem text MemoryOut = Unit {0}
 abbrev pub IsTreeAnswer : Option Table → List ℕ → Counts → Counts → ProblemData → Answer → Type 0
 IsTreeAnswer told tree before now problem (Unread fault) = ⊥
 IsTreeAnswer told tree before now problem (Unformed input fault) = ⊥
-IsTreeAnswer told tree before now problem TreeAbsent = IsAbsent told tree before.absences now.absences
+IsTreeAnswer told tree before now problem TreeAbsent = IsAbsent told tree × Rose before.absences now.absences
 IsTreeAnswer told tree before now problem TreeFailed = Rose before.faults now.faults
 IsTreeAnswer told tree before now problem (TreeUnread line kind) = (text : List ℕ) × Holds told tree text × IsTextAnswer problem text (TreeUnread line kind)
 IsTreeAnswer told tree before now problem (Rejected line why) = (text : List ℕ) × Holds told tree text × IsTextAnswer problem text (Rejected line why)

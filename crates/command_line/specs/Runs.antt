@@ -4,7 +4,8 @@ use Rattle.mg_outside.specs.Reading.{Table}
 use Rattle.cnf_reader.specs.Reading.{Counts}
 use Rattle.command_line.specs.Asking.{Request, Asks}
 use Rattle.command_line.specs.Lines.{usage_lines}
-use Rattle.command_line.specs.Printing.{SinkSeen, Printed}
+use Rattle.mg_outside.specs.Putting.{SinkSeen}
+use Rattle.command_line.specs.Printing.{Printed}
 use Rattle.command_line.specs.Requests.{AsksNothing}
 use Rattle.command_line.specs.Answers.{HasCause, memory_lines, IsPrinted}
 use Rattle.command_line.specs.declared.answer.Answer.{Answer}

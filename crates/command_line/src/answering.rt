@@ -1,8 +1,6 @@
 //! The work of each command: what it answers, from the words' files to the verdict.
 
 ghost use Rattle.std.specs.Prelude.{◌≡◌, ◌≤◌, MatchResult};
-ghost use Rattle.mg_outside.specs.Causes.{Rose};
-ghost use Rattle.cnf_reader.specs.Reading.{counts_of};
 ghost use Rattle.command_line.specs.Answers.{HasCause, IsTheProblemOf};
 ghost use Rattle.command_line.specs.Parts.{IsProblemTrouble, IsTextAnswer, IsTreeAnswer};
 ghost use Rattle.command_line.specs.Requests.{seen};
@@ -20,13 +18,13 @@ use tree_checker::{DocFault, Reject, check_doc};
 // The problem in the file, or why there is none.
 fn problem_of<F: Files>(alloc: Global, files: &mut F, file: &str) -> Result<Problem, Answer>
     ensures same { F.table files.new ≡ F.table files.old }
-    ensures faults { F.faults files.old ≤ F.faults files.new }
-    ensures absences { F.absences files.old ≤ F.absences files.new }
+    ensures faults { (F.counts files.old).faults ≤ (F.counts files.new).faults }
+    ensures absences { (F.counts files.old).absences ≤ (F.counts files.new).absences }
     ensures formed { MatchResult result
         (λ problem. IsTheProblemOf (F.table files.old) file.now problem)
         (λ answer. IsProblemTrouble (F.table files.old) file.now
-        (counts_of F.faults F.absences F.overruns files.old)
-        (counts_of F.faults F.absences F.overruns files.new) answer) }
+        (F.counts files.old)
+        (F.counts files.new) answer) }
 {
     let input = match read_problem(alloc, files, file, None) {
         Ok(input) => input,
@@ -60,8 +58,8 @@ fn check_text(alloc: Global, problem: &Problem, text: &[u8]) -> Answer
 fn check_tree<F: Files>(alloc: Global, files: &mut F, tree: &str, problem: &Problem) -> Answer
     ensures same { F.table files.new ≡ F.table files.old }
     ensures answer { IsTreeAnswer (F.table files.old) tree.now
-        (counts_of F.faults F.absences F.overruns files.old)
-        (counts_of F.faults F.absences F.overruns files.new) problem.now result }
+        (F.counts files.old)
+        (F.counts files.new) problem.now result }
 {
     let mut text = Vec::new(alloc);
     match files.read(tree, u64::MAX, &mut text) {
@@ -77,8 +75,8 @@ fn check_tree<F: Files>(alloc: Global, files: &mut F, tree: &str, problem: &Prob
 pub fn answer_of<F: Files>(alloc: Global, files: &mut F, request: Request<'_>) -> Answer
     ensures same { F.table files.new ≡ F.table files.old }
     ensures cause { HasCause (seen request.entry) (F.table files.old)
-        (counts_of F.faults F.absences F.overruns files.old)
-        (counts_of F.faults F.absences F.overruns files.new) result }
+        (F.counts files.old)
+        (F.counts files.new) result }
 {
     match request {
         Request::Check { file, tree } => match problem_of(alloc, files, file) {

@@ -2,12 +2,11 @@
 
 ghost use Rattle.std.specs.Prelude.{◌≡◌, ◌≤◌, ◌<◌, [], ◌∷◌, List, ℕ, map};
 ghost use Rattle.std.specs.List.{flat_map};
-ghost use Rattle.mg_outside.specs.Causes.{Rose};
-ghost use Rattle.mg_outside.specs.Putting.{Gained, TookFront, OnAllPut, OnPutFailed};
+ghost use Rattle.mg_outside.specs.Putting.{Puts};
 ghost use Rattle.std.specs.Option.{option_map};
 ghost use Rattle.command_line.specs.Answers.{memory_lines, memory_status};
 ghost use Rattle.command_line.specs.Lines.{status_line};
-ghost use Rattle.command_line.specs.Printing.{Printed, sink_seen, text_of};
+ghost use Rattle.command_line.specs.Printing.{Printed, text_of};
 
 use crate::szs_report::{FaultReport, put_report};
 use mg_outside::{PutAnswer, Sink};
@@ -20,10 +19,7 @@ const MEMORY_OUT: u8 = 4;
 
 // Puts one piece after the other. At the first failure it stops.
 fn put_pieces<O: Sink>(pieces: &[&[u8]], sink: &mut O) -> PutAnswer
-    ensures done { OnAllPut result (Gained (O.held sink.old) (O.held sink.new) (flat_map (λ piece. piece.now) pieces.now)) }
-    ensures failed { OnPutFailed result (TookFront (O.held sink.old) (O.held sink.new) (flat_map (λ piece. piece.now) pieces.now)) }
-    ensures cause { OnPutFailed result (Rose (O.faults sink.old) (O.faults sink.new)) }
-    ensures faults { O.faults sink.old ≤ O.faults sink.new }
+    ensures { Puts result (O.seen sink.old) (O.seen sink.new) (flat_map (λ piece. piece.now) pieces.now) }
 {
     for piece in pieces {
         if let PutAnswer::Failed = sink.put(piece) {
@@ -41,10 +37,10 @@ pub fn put_answer<O: Sink, E: Sink>(
     err: &mut E,
 ) -> u8
     ensures { Printed
-        (sink_seen O.held O.faults out.old)
-        (sink_seen O.held O.faults out.new)
-        (sink_seen E.held E.faults err.old)
-        (sink_seen E.held E.faults err.new)
+        (O.seen out.old)
+        (O.seen out.new)
+        (E.seen err.old)
+        (E.seen err.new)
         report.now.out report.now.err status result }
 {
     if let PutAnswer::Failed = put_report(&report.out, out) {
@@ -58,9 +54,7 @@ pub fn put_answer<O: Sink, E: Sink>(
 
 // Puts the status line of want of memory, where there is a name for it.
 fn put_memory_status<O: Sink>(name: Option<&str>, out: &mut O) -> PutAnswer
-    ensures done { OnAllPut result (Gained (O.held out.old) (O.held out.new) (text_of (memory_status (option_map (λ name. name.now) name.entry)))) }
-    ensures failed { OnPutFailed result (TookFront (O.held out.old) (O.held out.new) (text_of (memory_status (option_map (λ name. name.now) name.entry)))) }
-    ensures cause { OnPutFailed result (Rose (O.faults out.old) (O.faults out.new)) }
+    ensures { Puts result (O.seen out.old) (O.seen out.new) (text_of (memory_status (option_map (λ name. name.now) name.entry))) }
 {
     match name {
         None => PutAnswer::Done,
@@ -75,10 +69,10 @@ fn put_memory_status<O: Sink>(name: Option<&str>, out: &mut O) -> PutAnswer
 /// and a message.
 pub fn put_memory_out<O: Sink, E: Sink>(name: Option<&str>, out: &mut O, err: &mut E) -> u8
     ensures { Printed
-        (sink_seen O.held O.faults out.old)
-        (sink_seen O.held O.faults out.new)
-        (sink_seen E.held E.faults err.old)
-        (sink_seen E.held E.faults err.new)
+        (O.seen out.old)
+        (O.seen out.new)
+        (E.seen err.old)
+        (E.seen err.new)
         (memory_status (option_map (λ name. name.now) name.entry)) memory_lines 4 result }
 {
     if let PutAnswer::Failed = put_memory_status(name, out) {

@@ -1,9 +1,7 @@
 //! The top call: from the words to the status.
 
 ghost use Rattle.std.specs.Prelude.{◌≡◌, map, string_bytes};
-ghost use Rattle.command_line.specs.Printing.{sink_seen};
 ghost use Rattle.command_line.specs.Runs.{Runs, IsRefusedPrint, outside_of};
-ghost use Rattle.cnf_reader.specs.Reading.{counts_of};
 ghost use Rattle.command_line.specs.Exact.{IsExact};
 ghost use Rattle.command_line.specs.Requests.{seen};
 ghost use Rattle.command_line.specs.Asking.{problem_file};
@@ -33,10 +31,10 @@ fn files_of<'a>(request: Request<'a>) -> (&'a str, &'a str)
 // Refuses words that ask for no command.
 fn refuse_words<O: Sink, E: Sink>(alloc: Global, out: &mut O, err: &mut E) -> u8
     ensures { IsRefusedPrint
-        (sink_seen O.held O.faults out.old)
-        (sink_seen O.held O.faults out.new)
-        (sink_seen E.held E.faults err.old)
-        (sink_seen E.held E.faults err.new)
+        (O.seen out.old)
+        (O.seen out.new)
+        (E.seen err.old)
+        (E.seen err.new)
         result }
 {
     match report_fault(alloc, "", Trouble::Usage) {
@@ -55,10 +53,10 @@ fn put_request<O: Sink, E: Sink>(
 ) -> u8
     requires { IsReportable answer.now }
     ensures { IsAnswerPrint (seen request.entry) answer.now
-        (sink_seen O.held O.faults out.old)
-        (sink_seen O.held O.faults out.new)
-        (sink_seen E.held E.faults err.old)
-        (sink_seen E.held E.faults err.new)
+        (O.seen out.old)
+        (O.seen out.new)
+        (E.seen err.old)
+        (E.seen err.new)
         result }
 {
     let (file, tree) = files_of(request);
@@ -81,12 +79,12 @@ pub fn run_alone<F: Files, O: Sink, E: Sink>(
 ) -> u8
     ensures same { F.table files.new ≡ F.table files.old }
     ensures runs { Runs (map string_bytes words.now)
-        (outside_of F.table (counts_of F.faults F.absences F.overruns) (sink_seen O.held O.faults) (sink_seen E.held E.faults) files.old out.old err.old)
-        (outside_of F.table (counts_of F.faults F.absences F.overruns) (sink_seen O.held O.faults) (sink_seen E.held E.faults) files.new out.new err.new)
+        (outside_of F.table F.counts O.seen E.seen files.old out.old err.old)
+        (outside_of F.table F.counts O.seen E.seen files.new out.new err.new)
         result }
     ensures exact { IsExact (map string_bytes words.now)
-        (outside_of F.table (counts_of F.faults F.absences F.overruns) (sink_seen O.held O.faults) (sink_seen E.held E.faults) files.old out.old err.old)
-        (outside_of F.table (counts_of F.faults F.absences F.overruns) (sink_seen O.held O.faults) (sink_seen E.held E.faults) files.new out.new err.new)
+        (outside_of F.table F.counts O.seen E.seen files.old out.old err.old)
+        (outside_of F.table F.counts O.seen E.seen files.new out.new err.new)
         result }
 {
     let Some(request) = request_of(words) else {

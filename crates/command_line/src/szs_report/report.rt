@@ -2,8 +2,7 @@
 
 ghost use Rattle.std.specs.Prelude.{◌≡◌, ◌≤◌, ◌++◌, [], ◌∷◌, IfOk, OnOk, OnErr, map};
 ghost use Rattle.std.specs.List.{flat_map};
-ghost use Rattle.mg_outside.specs.Causes.{Rose};
-ghost use Rattle.mg_outside.specs.Putting.{Gained, TookFront, OnAllPut, OnPutFailed};
+ghost use Rattle.mg_outside.specs.Putting.{Puts};
 ghost use Rattle.command_line.specs.Printing.{text_of};
 
 use mg_outside::{PutAnswer, Sink};
@@ -58,10 +57,7 @@ pub(crate) fn joined(alloc: Global, parts: &[&[u8]]) -> Result<Vec<u8>, NoMemory
 
 /// Puts one line after the other. At the first failure it stops. It takes no memory.
 pub fn put_report<O: Sink>(report: &Report, sink: &mut O) -> PutAnswer
-    ensures done { OnAllPut result (Gained (O.held sink.old) (O.held sink.new) (text_of report.now)) }
-    ensures failed { OnPutFailed result (TookFront (O.held sink.old) (O.held sink.new) (text_of report.now)) }
-    ensures cause { OnPutFailed result (Rose (O.faults sink.old) (O.faults sink.new)) }
-    ensures faults { O.faults sink.old ≤ O.faults sink.new }
+    ensures { Puts result (O.seen sink.old) (O.seen sink.new) (text_of report.now) }
 {
     for line in &report.lines {
         if let PutAnswer::Failed = sink.put(line.as_slice()) {

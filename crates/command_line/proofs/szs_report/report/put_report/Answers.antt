@@ -1,11 +1,11 @@
 use Rattle.std.proofs.Common.{drop, ◌+◌, take}
 use Rattle.command_line.specs.Printing.{text_of}
-use Rattle.command_line.proofs.Gaining.{TookFront-append, flat_map-split}
+use Rattle.command_line.proofs.Gaining.{PutFailed-append, flat_map-split}
 use Rattle.command_line.proofs.szs_report.report.put_report.Goals as goal
 
-pub returns-in-Failed-clause-failed : goal.returns-in-Failed-clause-failed
-returns-in-Failed-clause-failed g c =
+pub returns-in-Failed : goal.returns-in-Failed
+returns-in-Failed g c =
     let lines = c.deref-line-items.result.now in
     rw (← c.report.view_is, ← c.deref-line-items.ensures.value, flat_map-split (λ line. line) lines c.loop-line.line-index c.line-item.result c.loop-line-test.true, ← c.line-item.is)
-    (TookFront-append _ _ _ (text_of (take c.loop-line.line-index lines)) _ (text_of (drop (c.loop-line.line-index + 1) lines))
-    c.loop-line.invariant.gained (rw c.as_slice.ensures at c.in-Failed.ensures.failed))
+    (PutFailed-append _ _ _ (text_of (take c.loop-line.line-index lines)) _ (text_of (drop (c.loop-line.line-index + 1) lines))
+    c.loop-line.invariant (rw c.as_slice.ensures at c.in-Failed.ensures))
