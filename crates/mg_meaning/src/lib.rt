@@ -22,7 +22,7 @@ pub use laws::{
 pub use least::least_violated;
 pub use matching::{PartialSubst, form_matches};
 pub use minimal::is_minimal;
-pub use satisfying::is_satisfying;
+pub use satisfying::{clashes, is_satisfying};
 
 #[cfg(test)]
 mod tests;

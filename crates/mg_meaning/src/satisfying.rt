@@ -18,8 +18,8 @@ fn is_opposite(held: &Lit, lit: &Lit) -> bool
     is_complement(held, lit)
 }
 
-// Whether the literal's complement is in the list.
-fn clashes(lits: &[Lit], lit: &Lit) -> bool
+/// Whether the literal's complement is in the list.
+pub fn clashes(lits: &[Lit], lit: &Lit) -> bool
     ensures { result ≡ holds lits.now (complement_of lit.now) }
 {
     lits.iter().any(|held| is_opposite(held, lit))
