@@ -20,6 +20,7 @@ pub use laws::{
     satisfying_is_saturated, sets_are_ordered,
 };
 pub use least::least_violated;
+pub use lits::{holds_lit, is_part_of};
 pub use matching::{PartialSubst, form_matches};
 pub use minimal::is_minimal;
 pub use satisfying::{clashes, is_satisfying};
