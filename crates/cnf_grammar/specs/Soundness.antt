@@ -14,11 +14,17 @@ are_terms variables (suc wanted) [] = false
 are_terms variables (suc wanted) (symbol_item symbol ∷ items) = are_terms variables (symbol.arity + wanted) items
 are_terms variables (suc wanted) (variable_item index ∷ items) = nat_lt index variables && are_terms variables wanted items
 
+-- the items begin with a symbol: what is one term of them is an atom, and no variable
+abbrev pub begins_with_symbol : List Item → Bool
+begins_with_symbol [] = false
+begins_with_symbol (symbol_item symbol ∷ items) = true
+begins_with_symbol (variable_item index ∷ items) = false
+
 -- the literal is $true, $false, or one atom over so many variables
 abbrev pub is_whole : ℕ → ClauseLiteral → Bool
 is_whole variables always = true
 is_whole variables never = true
-is_whole variables (signed is_negative atom) = are_terms variables 1 atom
+is_whole variables (signed is_negative atom) = begins_with_symbol atom && are_terms variables 1 atom
 
 -- the numbers of the variables of an item
 abbrev pub item_variables : Item → List ℕ

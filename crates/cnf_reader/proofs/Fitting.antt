@@ -5,13 +5,13 @@ use Rattle.std.specs.Option.{option_map_or}
 use Rattle.std.proofs.lemmas.Bool.{and_parts}
 use Rattle.mg_word.specs.Table.{Symbol}
 use Rattle.mg_word.specs.Words.{are_patterns}
-use Rattle.mg_word.specs.Facts.{literal_fits}
+use Rattle.mg_word.specs.Facts.{literal_fits, has_atom}
 use Rattle.mg_word.specs.declared.item.Item.{Item}
 use Rattle.mg_word.specs.declared.item.Item.TheVariants.{Sym, Var}
 use Rattle.mg_word.specs.declared.clause.ClauseLit.{ClauseLit}
 use Rattle.mg_word.specs.declared.clause.ClauseLit.TheVariants.{True, False, Lit as Literal}
 use Rattle.cnf_grammar.specs.Meaning.{Item as ReadItem, symbol_item, variable_item, ClauseLiteral, always, never, signed}
-use Rattle.cnf_grammar.specs.Soundness.{are_terms, is_whole}
+use Rattle.cnf_grammar.specs.Soundness.{begins_with_symbol, are_terms, is_whole}
 use Rattle.cnf_reader.specs.Keeping.{entry_of, number_in, with_symbol, with_items, with_literal, with_literals, numbered_items, numbered_literal, numbered_literals}
 use Rattle.cnf_reader.proofs.Numbering.{has, found, missing, last_is}
 use Rattle.cnf_reader.proofs.Growing.{items_grow, literals_grow}
@@ -53,7 +53,8 @@ literal_fit : (variables : ℕ) (whole more : List Symbol) (literal : ClauseLite
     → literal_fits whole variables (numbered_literal table literal) ≡ true
 literal_fit variables whole more always table is holds = refl
 literal_fit variables whole more never table is holds = refl
-literal_fit variables whole more (signed negative atom) table is holds = terms_fit variables whole more atom 1 table is holds
+literal_fit variables whole more (signed negative atom) table is holds =
+    terms_fit variables whole more atom 1 table is (and_parts (begins_with_symbol atom) (are_terms variables 1 atom) holds).1
 
 -- whole literals fit each table that continues the one with their symbols
 pub literals_fit : (variables : ℕ) (whole more : List Symbol) (literals : List ClauseLiteral) (table : List Symbol) → whole ≡ with_literals table literals ++ more → list_all (is_whole variables) literals ≡ true
@@ -96,3 +97,18 @@ literals_stay table more variables [] fits = refl
 literals_stay table more variables (literal ∷ literals) fits =
     let parts = and_parts (literal_fits table variables literal) (list_all (literal_fits table variables) literals) fits in
     ap (λ b. b && list_all (literal_fits (table ++ more) variables) literals) (literal_stays table more variables literal parts.0) ∙ literals_stay table more variables literals parts.1
+
+literal_has_atom : (variables : ℕ) (literal : ClauseLiteral) (table : List Symbol) → is_whole variables literal ≡ true → has_atom (numbered_literal table literal) ≡ true
+literal_has_atom variables always table holds = refl
+literal_has_atom variables never table holds = refl
+literal_has_atom variables (signed negative []) table holds = holds
+literal_has_atom variables (signed negative (symbol_item symbol ∷ items)) table holds = refl
+literal_has_atom variables (signed negative (variable_item index ∷ items)) table holds = holds
+
+-- whole literals are atoms with signs, and none of them is a variable
+pub literals_have_atoms : (variables : ℕ) (literals : List ClauseLiteral) (table : List Symbol) → list_all (is_whole variables) literals ≡ true → list_all has_atom (numbered_literals table literals) ≡ true
+literals_have_atoms variables [] table holds = refl
+literals_have_atoms variables (literal ∷ literals) table holds =
+    let parts = and_parts (is_whole variables literal) (list_all (is_whole variables) literals) holds in
+    let after = with_literal table literal in
+    ap (λ b. b && list_all has_atom (numbered_literals after literals)) (literal_has_atom variables literal table parts.0) ∙ literals_have_atoms variables literals after parts.1

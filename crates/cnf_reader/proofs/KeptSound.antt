@@ -16,8 +16,9 @@ use Rattle.cnf_reader.specs.Sound.{atom_of, HasFew, IsNarrow, IsReady, IsSoundKe
 use Rattle.cnf_reader.specs.declared.pending.Pending.{Pending}
 use Rattle.cnf_reader.specs.declared.kept.Kept.{Kept}
 use Rattle.cnf_reader.proofs.Numbering.{has}
+use Rattle.cnf_reader.proofs.Occurring.{different_literals}
 use Rattle.cnf_reader.proofs.Growing.{literals_grow}
-use Rattle.cnf_reader.proofs.Fitting.{literals_fit, literals_stay}
+use Rattle.cnf_reader.proofs.Fitting.{literals_fit, literals_have_atoms, literals_stay}
 use Rattle.cnf_reader.proofs.Chosen.{literals_variables, length_numbered, all_chosen_same, few_chosen, few_conclusions}
 
 kept_by : (P : Symbol → Type 0) (b : Bool) (table : List Symbol) (symbol : Symbol) → All P table → P symbol → All P (cond b table (table ++ symbol ∷ []))
@@ -72,6 +73,7 @@ symbols_small table literals taken few small narrow = literals_keep IsSmallSymbo
 clause_stays : (table more : List Symbol) (files : ℕ) (clause : Clause) → IsClause table files clause → IsClause (table ++ more) files clause
 clause_stays table more files clause is = record {
   fitting = literals_stay table more (length clause.variables) clause.literals is.fitting;
+  atoms = is.atoms;
   occurring = is.occurring;
   choices = is.choices;
   positives = is.positives;
@@ -95,6 +97,7 @@ new_clause table files file p known ready =
     let after = with_literals table p.draft.literals in
     let count = length_numbered table p.draft.literals in record {
       fitting = literals_fit (length p.draft.variables) after [] p.draft.literals table (sym (append-nil after)) ready.whole;
+      atoms = literals_have_atoms (length p.draft.variables) p.draft.literals table ready.whole;
       occurring = λ variable below. subst (λ variables. IsTrue (is_among variables variable)) (sym (literals_variables table p.draft.literals)) (ready.occurring variable below);
       choices = all_chosen_same table p.draft.literals p.conclude ∙ ready.limited.choices;
       positives = omega (arith, few_conclusions literals, count, ready.limited.literals);
@@ -120,6 +123,7 @@ kept_sound kept file p sound known room ready =
       positions = few_positions table p ready;
     } in record {
       named = symbols_named table p.draft.literals sound.named ready.suiting;
+      different = different_literals p.draft.literals table sound.different;
       arities = symbols_small table p.draft.literals ready.taken ready.few sound.arities ready.limited.arities;
       each = All-push (IsClause after files) kept.clauses clause stay (new_clause table files file p known ready);
       small = All-push IsSmallClause kept.clauses clause sound.small small;

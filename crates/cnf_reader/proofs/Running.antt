@@ -19,6 +19,7 @@ use Rattle.cnf_reader.proofs.Left.{few_left}
 with_files : (table : List Symbol) (few more : ℕ) → few ≤ more → (clause : Clause) → IsClause table few clause → IsClause table more clause
 with_files table few more less clause facts = record {
   fitting = facts.fitting;
+  atoms = facts.atoms;
   occurring = facts.occurring;
   choices = facts.choices;
   positives = facts.positives;
@@ -34,6 +35,7 @@ sound_with_file kept now file sound taken =
     let size : length now.files ≡ suc (length kept.files) = let e = ap (λ (l : List (List ℕ)). length l) taken.files in let f = length-append kept.files (file.name ∷ []) in omega (arith, e, f) in
     record {
       named = rw taken.symbols sound.named;
+      different = rw taken.symbols sound.different;
       arities = rw taken.symbols sound.arities;
       each = rw (taken.symbols, taken.clauses) (All-weaker (IsClause kept.symbols (length kept.files)) (IsClause kept.symbols (length now.files)) (with_files kept.symbols (length kept.files) (length now.files) (omega (arith, size))) kept.clauses sound.each);
       small = rw taken.clauses sound.small;
@@ -41,7 +43,7 @@ sound_with_file kept now file sound taken =
     }
 
 sound_nothing : IsSoundKept nothing_kept
-sound_nothing = record { named = refl; arities = All-nil IsSmallSymbol; each = All-nil (IsClause [] 0); small = All-nil IsSmallClause; few = omega arith }
+sound_nothing = record { named = refl; different = λ i j d below within. absurd (omega arith); arities = All-nil IsSmallSymbol; each = All-nil (IsClause [] 0); small = All-nil IsSmallClause; few = omega arith }
 
 -- the problem file was opened
 pub run_begun : (now : Kept) (file : FileData) → IsTakenIn nothing_kept now file → length file.bytes ≤ most_bytes → IsSoundRun now (file ∷ [])

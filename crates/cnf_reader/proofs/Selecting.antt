@@ -1,5 +1,5 @@
 -- A table of the names of a selection has a name exactly where the names have it.
-use Rattle.std.proofs.Common.{◌≡◌, ℕ, IsUtf8, Bool, true, false, true≢false, cond, ◌||◌, ◌&&◌, List, [], ◌∷◌, ◌++◌, Contains, Option, Some, None, IsNone, ◌↔◌, is_some, refl, sym, ap, ◌∙◌, subst}
+use Rattle.std.proofs.Common.{◌≡◌, ℕ, IsUtf8, Bool, true, false, true≢false, cond, ◌||◌, List, [], ◌∷◌, ◌++◌, Contains, Option, Some, None, IsNone, ◌↔◌, is_some, refl, sym, ap, ◌∙◌, subst}
 use Rattle.std.specs.List.{list_all, list_any}
 use Rattle.std.specs.Str.{bytes_eq}
 use Rattle.std.proofs.lemmas.Slice.Eq.{bytes_eq-Decides}

@@ -1,5 +1,5 @@
 -- What holds of a clause that may be kept, and of what is kept. No public clause cites this module.
-use Rattle.std.specs.Prelude.{ℕ, ◌+◌, ◌<◌, ◌≤◌, List, [], ◌∷◌, length, map, Option, Some, None, All, IsTrue}
+use Rattle.std.specs.Prelude.{◌≢◌, ℕ, ◌+◌, ◌<◌, ◌≤◌, List, [], ◌∷◌, length, map, Option, Some, None, All, AllPairs, IsTrue}
 use Rattle.std.specs.List.{list_all, flat_map}
 use Rattle.mg_word.specs.Facts.{is_name_byte, is_symbol, IsClause}
 use Rattle.mg_word.specs.Forms.{is_among}
@@ -55,6 +55,7 @@ pub record IsReady (p : Pending) : Type 0 where
 -- what is kept can be an input, within the limits
 pub record IsSoundKept (kept : Kept) : Type 0 where
   pub named : IsTrue (list_all is_symbol kept.symbols)
+  pub different : AllPairs (λ a b. a ≢ b) kept.symbols
   pub arities : All IsSmallSymbol kept.symbols
   pub each : All (IsClause kept.symbols (length kept.files)) kept.clauses
   pub small : All IsSmallClause kept.clauses
