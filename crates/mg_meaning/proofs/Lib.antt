@@ -10,6 +10,7 @@ pub mod ExampleProblems
 pub mod ExampleSets
 pub mod ExampleTrees
 pub mod Excluded
+pub mod FoldApplied
 pub mod FormSteps
 pub mod FormTruth
 pub mod FormVariables
@@ -25,5 +26,6 @@ pub mod MinimalLists
 pub mod PartsTried
 pub mod PlainCovers
 pub mod PlainShapes
+pub mod PlainTables
 pub mod Room
 pub mod Terms

@@ -9,7 +9,7 @@ use Rattle.mg_meaning.specs.PlainTree.{Shape, Shapes, saturated, rejected, split
 use Rattle.mg_meaning.proofs.InstOrders.{least_same, least_not_saturated}
 
 -- an instance of weight above 0 has conclusions
-some_conclusions : (inst : Inst) → 0 < weight_of inst → inst.conclusions ≡ [] → ⊥
+pub some_conclusions : (inst : Inst) → 0 < weight_of inst → inst.conclusions ≡ [] → ⊥
 some_conclusions inst heavy empty = let zero_weight : weight_of inst ≡ 0 = ap heaviest empty in omega arith
 
 mutual

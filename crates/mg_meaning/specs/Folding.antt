@@ -1,6 +1,6 @@
 -- The pair that a closed split node learns from its children, after the nogoods of complement splitting.
-use Rattle.std.specs.Prelude.{not, List, [], ◌∷◌, ◌++◌, filter}
-use Rattle.mg_word.specs.Sets.{holds, set_of}
+use Rattle.std.specs.Prelude.{Bool, not, ◌&&◌, List, [], ◌∷◌, ◌++◌, filter, IsTrue}
+use Rattle.mg_word.specs.Sets.{holds, is_part, with_lit, set_of}
 use Rattle.mg_word.specs.Words.{complement_of}
 use Rattle.mg_word.specs.declared.lit.Lit.{Lit}
 use Rattle.mg_word.specs.declared.form.Inst.{Inst}
@@ -9,6 +9,18 @@ use Rattle.mg_word.specs.declared.form.Inst.{Inst}
 pub record Pair : Type 0 where
   pub inside : List Lit
   pub outside : List Lit
+
+-- the pair applies where its inside is held and its outside is barred
+abbrev pub applies : Pair → List Lit → List Lit → Bool
+applies pair held barred = is_part pair.inside held && is_part pair.outside barred
+
+-- one pair for each conclusion: child i's applies where conclusion i is held too, and those before it are barred too
+abbrev pub ApplyAtChildren : List Lit → List Lit → List Lit → List Pair → Type 0
+ApplyAtChildren held barred [] [] = Unit {0}
+ApplyAtChildren held barred (conclusion ∷ conclusions) (pair ∷ pairs) =
+    IsTrue (applies pair (held ++ conclusion ∷ []) barred) × ApplyAtChildren held (with_lit barred conclusion) conclusions pairs
+ApplyAtChildren held barred [] (pair ∷ pairs) = ⊥
+ApplyAtChildren held barred (conclusion ∷ conclusions) [] = ⊥
 
 -- the literals that are not among these
 abbrev pub without : List Lit → List Lit → List Lit

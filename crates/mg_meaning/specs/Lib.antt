@@ -2,13 +2,16 @@ pub mod Bound
 pub mod Deciding
 pub mod Excluding
 pub mod Folding
+pub mod FoldingLaws
 pub mod Instances
 pub mod Laws
 pub mod Listing
+pub mod MatchLaws
 pub mod Matches
 pub mod Matching
 pub mod Minimality
 pub mod Parts
+pub mod PlainLaws
 pub mod PlainTree
 pub mod Refuting
 pub mod Satisfaction

@@ -1,5 +1,5 @@
 -- The plain search tree, without lemmas and without covering: complement splitting after Bry and Yahya.
-use Rattle.std.specs.Prelude.{◌≡◌, ℕ, ◌+◌, ◌<◌, ◌≤◌, Bool, false, ◌||◌, List, [], ◌∷◌, ◌++◌, IsTrue}
+use Rattle.std.specs.Prelude.{◌≡◌, ℕ, ◌+◌, ◌<◌, ◌≤◌, Bool, false, ◌||◌, List, [], ◌∷◌, ◌++◌, IsTrue, MatchBool}
 use Rattle.mg_word.specs.Sets.{holds, with_lit}
 use Rattle.mg_word.specs.Words.{complement_of}
 use Rattle.mg_word.specs.Facts.{ProblemData}
@@ -58,6 +58,28 @@ abbrev mutual
 -- the plain tree from these literals and this barred set has so many extensions
 abbrev pub Plain : ProblemData → ℕ → List Lit → List Lit → ℕ → Type 0
 Plain problem weight held barred count = (shape : Shape) × IsPlain problem weight held barred shape × (extends_in shape ≡ count)
+
+-- what the child for this conclusion counts: 0 where it is closed at once, else the number of its own tree
+abbrev pub ChildCounts : ProblemData → ℕ → List Lit → List Lit → Lit → ℕ → Type 0
+ChildCounts problem weight held barred conclusion count = MatchBool (is_closed_at_once held barred conclusion) (count ≡ 0) (Plain problem weight (held ++ conclusion ∷ []) barred count)
+
+-- the sum over the children: child i holds conclusion i and bars those before it
+abbrev pub ChildrenCount : ProblemData → ℕ → List Lit → List Lit → List Lit → ℕ → Type 0
+ChildrenCount problem weight held barred [] sum = sum ≡ 0
+ChildrenCount problem weight held barred (conclusion ∷ conclusions) sum =
+    (own : ℕ) × (rest : ℕ) × ChildCounts problem weight held barred conclusion own × ChildrenCount problem weight held (with_lit barred conclusion) conclusions rest × (sum ≡ own + rest)
+
+-- the instances by which a tree rejects and splits
+abbrev mutual
+  pub insts_in : Shape → List Inst
+  insts_in saturated = []
+  insts_in (rejected inst) = inst ∷ []
+  insts_in (split inst children) = inst ∷ insts_in_all children
+
+  pub insts_in_all : Shapes → List Inst
+  insts_in_all none = []
+  insts_in_all (shut children) = insts_in_all children
+  insts_in_all (child shape children) = insts_in shape ++ insts_in_all children
 
 -- the literals of the saturated nodes of a tree from these literals
 abbrev mutual

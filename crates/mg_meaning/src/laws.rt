@@ -1,6 +1,9 @@
 //! The laws of the definitions: each function states one as its contract and does nothing.
 
-ghost use Rattle.mg_meaning.specs.Laws.{OrdersSets, OrdersInstances, RisingIsUnique, LeastIsUnique, SatisfiesWhereSaturated, MinimalListIsUnique, IsHerbrandModel, InstancesExclude, InstancesCover, FoldExcludes, LeavesExclude, PlainIsUnique, MatchesAreExact, MatchesGrow, SatisfyingIsDecided, IncludesMinimal, HeavyHasNoPlain, CoveringNoneRefutes, PlainIncludes, BoundIsEnough};
+ghost use Rattle.mg_meaning.specs.Laws.{OrdersSets, OrdersInstances, RisingIsUnique, LeastIsUnique, SatisfiesWhereSaturated, MinimalListIsUnique, IsHerbrandModel, InstancesExclude, InstancesCover, SatisfyingIsDecided, IncludesMinimal, CoveringNoneRefutes};
+ghost use Rattle.mg_meaning.specs.FoldingLaws.{FoldExcludes, LeavesExclude, FoldApplies, LeavesApply};
+ghost use Rattle.mg_meaning.specs.PlainLaws.{PlainIsUnique, PlainByTable, HeavyHasNoPlain, PlainCovers, PlainIncludes, BoundIsEnough};
+ghost use Rattle.mg_meaning.specs.MatchLaws.{MatchesAreExact, MatchesGrow};
 
 /// The order of sets is total, and only equal sets tie.
 pub fn sets_are_ordered()
@@ -62,6 +65,16 @@ pub fn leaf_pair_excludes()
     ensures { LeavesExclude }
 {}
 
+/// Where the premises are held and each child's pair applies at its child, the folded pair applies.
+pub fn folded_pair_applies()
+    ensures { FoldApplies }
+{}
+
+/// The pairs of a rejection, a clash and a barred literal apply where they come from.
+pub fn leaf_pair_applies()
+    ensures { LeavesApply }
+{}
+
 /// The plain tree has at most one number of extensions.
 pub fn plain_tree_is_unique()
     ensures { PlainIsUnique }
@@ -87,9 +100,19 @@ pub fn satisfying_includes_minimal()
     ensures { IncludesMinimal }
 {}
 
+/// The number of extensions of the plain tree goes by its table, read both ways.
+pub fn plain_tree_goes_by_its_table()
+    ensures { PlainByTable }
+{}
+
 /// The plain tree has no number of extensions where the least violated instance is too heavy.
 pub fn heavy_has_no_plain_tree()
     ensures { HeavyHasNoPlain }
+{}
+
+/// A clash-free set that obeys the instances of a plain tree and passes its root includes the literals of a saturated node.
+pub fn plain_tree_covers()
+    ensures { PlainCovers }
 {}
 
 /// A satisfying set that passes a node includes the literals of a saturated node of the plain tree from there.
