@@ -6,6 +6,7 @@ pub mod LineFacts
 pub mod Lines
 pub mod Opened
 pub mod Openings
+pub mod OwnBranches
 pub mod Refuting
 pub mod Shapes
 pub mod Soundness

@@ -3,6 +3,7 @@ pub mod Docs
 pub mod Faults
 pub mod Inside
 pub mod Instances
+pub mod Laws
 pub mod Openings
 pub mod Indices
 pub mod Samples

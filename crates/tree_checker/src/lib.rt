@@ -5,6 +5,7 @@ mod check;
 mod doc;
 mod doc_fault;
 mod frame;
+mod laws;
 mod line;
 mod lits;
 #[cfg(test)]
@@ -15,3 +16,4 @@ mod walk;
 pub use check::check_doc;
 pub use doc::{Doc, LemmaBlock, Reject, TreeLine, Why};
 pub use doc_fault::{DocFault, DocKind};
+pub use laws::{larger_branch_closes, own_branches_close};
