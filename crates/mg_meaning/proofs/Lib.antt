@@ -3,6 +3,7 @@ pub mod Answering
 pub mod Bindings
 pub mod Binds
 pub mod ClauseTruth
+pub mod Counted
 pub mod Decided
 pub mod Enough
 pub mod ExampleMatches

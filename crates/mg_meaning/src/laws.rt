@@ -3,7 +3,7 @@
 ghost use Rattle.mg_meaning.specs.Laws.{OrdersSets, OrdersInstances, RisingIsUnique, LeastIsUnique, SatisfiesWhereSaturated, MinimalListIsUnique, IsHerbrandModel, InstancesExclude, InstancesCover, SatisfyingIsDecided, IncludesMinimal, CoveringNoneRefutes};
 ghost use Rattle.mg_meaning.specs.FoldingLaws.{FoldExcludes, LeavesExclude, FoldApplies, LeavesApply};
 ghost use Rattle.mg_meaning.specs.PlainLaws.{PlainIsUnique, PlainByTable, HeavyHasNoPlain, PlainCovers, PlainIncludes, BoundIsEnough};
-ghost use Rattle.mg_meaning.specs.MatchLaws.{MatchesAreExact, MatchesGrow};
+ghost use Rattle.mg_meaning.specs.MatchLaws.{MatchesAreExact, MatchesGrow, MatchesAreCounted};
 
 /// The order of sets is total, and only equal sets tie.
 pub fn sets_are_ordered()
@@ -88,6 +88,11 @@ pub fn matches_are_exact()
 /// One literal more keeps all prefix matches and adds exactly those that use it.
 pub fn matches_grow()
     ensures { MatchesGrow }
+{}
+
+/// With a new literal the prefix matches are, up to order, the old ones and those that use it.
+pub fn new_matches_are_counted()
+    ensures { MatchesAreCounted }
 {}
 
 /// Whether a set satisfies a problem, and whether it is minimal, are decided by tests.
