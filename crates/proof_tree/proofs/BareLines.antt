@@ -2,9 +2,10 @@
 use Rattle.std.proofs.Common.{◌≡◌, ◌≢◌, ℕ, ◌+◌, ◌<◌, Bool, true, false, true≢false, not, nat_eq, List, [], ◌∷◌, ◌++◌, length, drop, slice_index_or, refl, sym, ap, ◌∙◌, subst, eqb-true, eq-eqb, if◌then◌else◌}
 use Rattle.std.proofs.lemmas.List.{drop_more}
 use Rattle.proof_tree.specs.DocText.{start, kept, passed, bare_from, bare}
-use Rattle.proof_tree.specs.DocFaults.{is_no_feed, has_no_feed, begins_with, BeginsWithLine}
+use Rattle.proof_tree.specs.DocFaults.{is_no_feed, has_no_feed, BeginsWithLine}
+use Rattle.term_text.specs.Fronts.{begins_with}
 use Rattle.mg_word.proofs.Members.{both_true, and_true}
-use Rattle.proof_tree.proofs.Texts.{not_true, stops}
+use Rattle.term_text.proofs.Texts.{not_true, stops}
 
 no_feed : (byte : ℕ) → is_no_feed byte ≡ true → nat_eq byte 10 ≡ false
 no_feed byte is = not_true (nat_eq byte 10) is

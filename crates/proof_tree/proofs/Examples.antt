@@ -10,7 +10,8 @@ use Rattle.mg_word.specs.declared.form.Form.{Form}
 use Rattle.mg_word.specs.declared.item.Item.TheVariants.{Sym}
 use Rattle.tree_checker.specs.declared.doc.TreeLine.TheVariants.{Form as FormLine, Clash, Barred, By}
 use Rattle.proof_tree.specs.DocText.{doc_text, bare}
-use Rattle.proof_tree.specs.DocFaults.{trees_left, are_own_terms, is_later_line}
+use Rattle.proof_tree.specs.DocFaults.{trees_left, is_later_line}
+use Rattle.term_text.specs.OwnTerms.{are_own_terms}
 
 abbrev b : Symbol
 b = symbol_of (codes "b") 0 Word

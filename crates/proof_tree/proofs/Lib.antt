@@ -1,19 +1,5 @@
 mod Examples
-pub mod Texts
-pub mod Quotes
-pub mod NameShapes
-pub mod Cuts
-pub mod Reaching
-pub mod AheadNames
-pub mod TermSteps
-pub mod TermEnds
-pub mod RawTerms
-pub mod TermReading
-pub mod LookUps
-pub mod Decimals
 pub mod BareLines
-pub mod Verdicts
-pub mod Listing
 pub mod FormLines
 pub mod TreeCounts
 pub mod LineFeeds
@@ -23,3 +9,5 @@ pub mod OneFormLine
 pub mod OneKind
 pub mod OneFront
 pub mod OneDocFault
+pub mod Written
+pub mod DocsApart

@@ -1,24 +1,24 @@
 -- No line feed is in what is spelled, so a text begins with one line alone.
-use Rattle.std.proofs.Common.{◌≡◌, ℕ, zero, suc, Bool, true, false, true≢false, ◌||◌, if◌then◌else◌, nat_eq, List, [], ◌∷◌, ◌++◌, map, Option, Some, None, refl, sym, codes, arith}
+use Rattle.std.proofs.Common.{◌≡◌, ℕ, zero, suc, Bool, true, false, true≢false, ◌||◌, if◌then◌else◌, nat_eq, List, [], ◌∷◌, ◌++◌, map, Option, Some, None, refl, sym, codes, arith, slice_get}
 use Rattle.std.specs.List.{list_all, flat_map}
 use Rattle.std.specs.Fmt.{decimal}
 use Rattle.std.proofs.lemmas.Bool.Decides.{nat_tests}
 use Rattle.mg_word.specs.Table.{Symbol}
 use Rattle.mg_word.specs.Facts.{ProblemData, is_symbol, is_digit, is_name_byte}
 use Rattle.std.specs.Option.{option_to_list}
-use Rattle.std.proofs.Common.{slice_get}
 use Rattle.mg_word.specs.declared.symbol.Kind.{Kind}
 use Rattle.mg_word.specs.declared.symbol.Kind.TheVariants.{Word, Integer, Distinct}
-use Rattle.proof_tree.proofs.FormLines.{passes_at}
 use Rattle.mg_word.specs.Spelling.{is_lower_word, spelled, symbols_at, spelled_within, symbol_piece, spelled_name, behind, open_behind, closing, escaped, quoted}
 use Rattle.tree_checker.specs.declared.doc.TreeLine.{TreeLine}
 use Rattle.tree_checker.specs.declared.doc.TreeLine.TheVariants.{Form as FormLine, Clash, Barred, By}
-use Rattle.proof_tree.specs.DocText.{line_text, listed, after_items, in_brackets, NamesForm}
+use Rattle.proof_tree.specs.DocText.{line_text, NamesForm}
+use Rattle.term_text.specs.Brackets.{listed, after_items, in_brackets}
 use Rattle.proof_tree.specs.DocFaults.{is_no_feed, has_no_feed}
 use Rattle.mg_word.proofs.Members.{both_true, and_true}
-use Rattle.proof_tree.proofs.Texts.{cut_unique, tails, all_weaker}
-use Rattle.proof_tree.proofs.Decimals.{decimal_digits}
-use Rattle.proof_tree.proofs.LookUps.{name_bytes}
+use Rattle.term_text.proofs.Texts.{cut_unique, tails, all_weaker}
+use Rattle.term_text.proofs.Decimals.{decimal_digits}
+use Rattle.term_text.proofs.LookUps.{name_bytes}
+use Rattle.term_text.proofs.SymbolWords.{passes_at}
 
 no_feed_append : (a b : List ℕ) → has_no_feed a ≡ true → has_no_feed b ≡ true → has_no_feed (a ++ b) ≡ true
 no_feed_append [] b first second = second

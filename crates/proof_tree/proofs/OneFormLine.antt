@@ -13,58 +13,22 @@ use Rattle.mg_word.specs.OneSpelling.{make_terms, ends_word}
 use Rattle.mg_word.specs.declared.form.Form.{Form}
 use Rattle.mg_word.proofs.Members.{both_true, and_true}
 use Rattle.mg_word.proofs.SpelledTerms.{symbols_apart}
-use Rattle.tree_checker.specs.Docs.{most_symbols}
+use Rattle.term_text.specs.Words.{most_symbols}
 use Rattle.tree_checker.specs.declared.doc.TreeLine.{TreeLine}
 use Rattle.tree_checker.specs.declared.doc.TreeLine.TheVariants.{Form as FormLine, Clash, Barred, By}
 use Rattle.tree_checker.specs.declared.doc_fault.DocKind.{DocKind}
 use Rattle.tree_checker.specs.declared.doc_fault.DocKind.TheVariants.{NotBuilt, Syntax, FormNumber, Unknown, Heavy}
-use Rattle.proof_tree.specs.DocText.{after_items, in_brackets}
-use Rattle.proof_tree.specs.DocFaults.{are_own_terms, IsOwnTerm, IsFormLine, HasUnknown, AllKnown, IsHeavy, is_later_line, TreeLineFault}
-use Rattle.proof_tree.specs.Lists.{IsLight, IsOnlyList, IsListRead}
+use Rattle.term_text.specs.Brackets.{after_items, in_brackets}
+use Rattle.term_text.specs.OwnTerms.{are_own_terms, IsOwnTerm, HasUnknown, AllKnown, IsHeavy, IsLight}
+use Rattle.proof_tree.specs.DocFaults.{IsFormLine, is_later_line, TreeLineFault}
+use Rattle.term_text.specs.Lists.{IsOnlyList, IsListRead}
 use Rattle.proof_tree.specs.Lines.{IsLineOf, IsOnlySplit, IsNumbered}
 use Rattle.proof_tree.specs.declared.form_lines.LineFault.TheVariants.{Wrong}
-use Rattle.proof_tree.proofs.Texts.{cut_unique, heads, tails}
-use Rattle.proof_tree.proofs.Decimals.{decimal_same, decimal_digits}
-use Rattle.proof_tree.proofs.Listing.{only_none}
+use Rattle.term_text.proofs.Texts.{cut_unique, heads, tails}
+use Rattle.term_text.proofs.Decimals.{decimal_same, decimal_digits}
+use Rattle.term_text.proofs.Listing.{only_none}
 use Rattle.proof_tree.proofs.FormLines.{no_raw_line, line_found}
-
-own_made : (wanted : ℕ) (term : List Symbol) → are_own_terms wanted term ≡ true → (make_terms wanted term ≡ true) × (list_all is_symbol term ≡ true)
-own_made zero [] own = (refl, refl)
-own_made zero (symbol ∷ term) own = absurd (true≢false (sym own))
-own_made (suc wanted) [] own = absurd (true≢false (sym own))
-own_made (suc wanted) (symbol ∷ term) own =
-    let parts = both_true (is_symbol symbol) (are_own_terms (symbol.arity + wanted) term) own in
-    let rest = own_made (symbol.arity + wanted) term parts.1 in
-    (rest.0, and_true (is_symbol symbol) (list_all is_symbol term) parts.0 rest.1)
-
-term_once : (s t : List Symbol) (r u : List ℕ) → IsOwnTerm s → IsOwnTerm t → ends_word r ≡ true → ends_word u ≡ true → spelled_symbols s ++ r ≡ spelled_symbols t ++ u → (s ≡ t) × (r ≡ u)
-term_once s t r u own own' ends ends' same =
-    let here = own_made 1 s own in
-    let there = own_made 1 t own' in
-    symbols_apart s t r u here.0 there.0 here.1 there.1 ends ends' same
-
-items_end : (terms : List (List Symbol)) → ends_word (after_items (map spelled_symbols terms)) ≡ true
-items_end [] = refl
-items_end (term ∷ terms) = refl
-
-after_once : (a b : List (List Symbol)) → All IsOwnTerm a → All IsOwnTerm b → after_items (map spelled_symbols a) ≡ after_items (map spelled_symbols b) → a ≡ b
-after_once [] [] own own' same = refl
-after_once [] (t ∷ b) own own' same = absurd (omega (arith, heads 93 44 [] _ same))
-after_once (s ∷ a) [] own own' same = absurd (omega (arith, heads 44 93 _ [] same))
-after_once (s ∷ a) (t ∷ b) own own' same =
-    let here = term_once s t (after_items (map spelled_symbols a)) (after_items (map spelled_symbols b)) (All-head IsOwnTerm s a own) (All-head IsOwnTerm t b own') (items_end a) (items_end b) (tails 44 44 _ _ same) in
-    let first : s ≡ t = here.0 in
-    let rest : a ≡ b = after_once a b (All-tail IsOwnTerm s a own) (All-tail IsOwnTerm t b own') here.1 in
-    cc
-
-list_once : (a b : List (List Symbol)) → All IsOwnTerm a → All IsOwnTerm b → in_brackets (map spelled_symbols a) ≡ in_brackets (map spelled_symbols b) → a ≡ b
-list_once [] b own own' same = sym ((only_none (93 ∷ []) refl).only b (record { own = own'; text = sym same }))
-list_once (s ∷ a) [] own own' same = (only_none (93 ∷ []) refl).only (s ∷ a) (record { own = own; text = same })
-list_once (s ∷ a) (t ∷ b) own own' same =
-    let here = term_once s t (after_items (map spelled_symbols a)) (after_items (map spelled_symbols b)) (All-head IsOwnTerm s a own) (All-head IsOwnTerm t b own') (items_end a) (items_end b) same in
-    let first : s ≡ t = here.0 in
-    let rest : a ≡ b = after_once a b (All-tail IsOwnTerm s a own) (All-tail IsOwnTerm t b own') here.1 in
-    cc
+use Rattle.term_text.proofs.Once.{list_once}
 
 -- a form's line has one number, and one text behind its bracket
 pub line_parts : (n m : ℕ) (r s : List ℕ) → n < 2 ^ 32 → m < 2 ^ 32 → codes "form " ++ (decimal n ++ 32 ∷ 91 ∷ r) ≡ codes "form " ++ (decimal m ++ 32 ∷ 91 ∷ s) → (n ≡ m) × (r ≡ s)

@@ -12,10 +12,11 @@ use Rattle.tree_checker.specs.Docs.{LineFits, IsKnown}
 use Rattle.tree_checker.specs.declared.doc.TreeLine.{TreeLine}
 use Rattle.tree_checker.specs.declared.doc.TreeLine.TheVariants.{Form as FormLine, Clash, Barred, By}
 use Rattle.tree_checker.specs.declared.doc_fault.DocKind.{DocKind}
-use Rattle.proof_tree.specs.DocText.{line_text, in_brackets, header, root_word, NamesForm}
+use Rattle.proof_tree.specs.DocText.{line_text, header, root_word, NamesForm}
+use Rattle.term_text.specs.Brackets.{in_brackets}
 use Rattle.proof_tree.specs.DocFaults.{Place, at_header, at_root, in_tree, trees_left, AreFirst, IsFront, LineFault, has_no_feed}
 use Rattle.proof_tree.specs.Lines.{IsLineOf}
-use Rattle.proof_tree.proofs.Texts.{heads, tails}
+use Rattle.term_text.proofs.Texts.{heads, tails}
 use Rattle.proof_tree.proofs.LineFeeds.{line_no_feed}
 use Rattle.proof_tree.proofs.TreeCounts.{left_append}
 use Rattle.proof_tree.proofs.OneFormLine.{line_parts, fine_line}

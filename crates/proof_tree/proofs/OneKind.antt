@@ -6,7 +6,8 @@ use Rattle.mg_word.specs.Facts.{ProblemData}
 use Rattle.tree_checker.specs.declared.doc_fault.DocKind.{DocKind}
 use Rattle.tree_checker.specs.declared.doc_fault.DocKind.TheVariants.{Header, NotBuilt, Syntax, FormNumber, Unknown, Heavy, Early, Rest}
 use Rattle.proof_tree.specs.DocText.{header, root_word}
-use Rattle.proof_tree.specs.DocFaults.{Place, at_header, at_root, in_tree, IsFormLine, IsSymbolOf, HasUnknown, AllKnown, is_later_line, TreeLineFault, LineFault, has_no_feed, BeginsWithLine, FaultAt}
+use Rattle.proof_tree.specs.DocFaults.{Place, at_header, at_root, in_tree, IsFormLine, is_later_line, TreeLineFault, LineFault, has_no_feed, BeginsWithLine, FaultAt}
+use Rattle.term_text.specs.OwnTerms.{IsSymbolOf, HasUnknown, AllKnown}
 use Rattle.proof_tree.proofs.FormLines.{any_all}
 use Rattle.proof_tree.proofs.LineFeeds.{feed_in, line_unique}
 use Rattle.proof_tree.proofs.OneFormLine.{form_line_once, form_line_read, none_is_some}

@@ -7,7 +7,9 @@ use Rattle.mg_word.specs.Facts.{ProblemData, is_symbol}
 use Rattle.mg_word.specs.Spelling.{spelled_symbols}
 use Rattle.mg_word.specs.declared.form.Form.{Form}
 use Rattle.tree_checker.specs.Trees.{conclusions_at}
-use Rattle.tree_checker.specs.Docs.{LineFits, IsKnown, most_symbols}
+use Rattle.tree_checker.specs.Docs.{LineFits, IsKnown}
+use Rattle.term_text.specs.OwnTerms.{IsOwnTerm, HasUnknown, AllKnown, IsHeavy}
+use Rattle.term_text.specs.Fronts.{begins_with}
 use Rattle.tree_checker.specs.declared.doc.TreeLine.{TreeLine}
 use Rattle.tree_checker.specs.declared.doc_fault.DocKind.{DocKind}
 use Rattle.tree_checker.specs.declared.doc_fault.DocKind.TheVariants.{Header, NotBuilt, Syntax, FormNumber, Unknown, Heavy, Early, Rest}
@@ -40,45 +42,11 @@ IsFront problem lines at_header = lines ≡ []
 IsFront problem lines at_root = lines ≡ header ∷ []
 IsFront problem lines (in_tree wanted) = (tree : List TreeLine) × AreFirst problem tree wanted × (lines ≡ header ∷ root_word ∷ map (line_text problem.symbols) tree)
 
--- the list is so many terms one after another, in prefix order by the arities of its own symbols
-abbrev pub are_own_terms : ℕ → List Symbol → Bool
-are_own_terms zero [] = true
-are_own_terms zero (symbol ∷ symbols) = false
-are_own_terms (suc wanted) [] = false
-are_own_terms (suc wanted) (symbol ∷ symbols) = is_symbol symbol && are_own_terms (symbol.arity + wanted) symbols
-
--- the list is one term of symbols that may be in no table
-abbrev pub IsOwnTerm : List Symbol → Type 0
-IsOwnTerm term = are_own_terms 1 term ≡ true
-
 -- the line names a form by that number, with these terms
 pub record IsFormLine (line : List ℕ) (number : ℕ) (terms : List (List Symbol)) : Type 0 where
   pub small : number < 2 ^ 32
   pub own : All IsOwnTerm terms
   pub text : form_line number (map spelled_symbols terms) ≡ line
-
--- the symbol is in the table, whose arities fit 32 bits
-pub record IsSymbolOf (table : List Symbol) (symbol : Symbol) : Type 0 where
-  pub held : Contains table symbol
-  pub small : symbol.arity < 2 ^ 32
-
--- a symbol of the term is not in the table
-abbrev pub HasUnknown : List Symbol → List Symbol → Type 0
-HasUnknown table term = Any (λ symbol. ¬ IsSymbolOf table symbol) term
-
--- each symbol of the term is in the table
-abbrev pub AllKnown : List Symbol → List Symbol → Type 0
-AllKnown table term = All (IsSymbolOf table) term
-
--- the term has too many symbols
-abbrev pub IsHeavy : List Symbol → Type 0
-IsHeavy term = most_symbols < length term
-
--- how a line begins
-abbrev pub begins_with : List ℕ → List ℕ → Bool
-begins_with [] line = true
-begins_with (byte ∷ word) [] = false
-begins_with (byte ∷ word) (first ∷ line) = nat_eq byte first && begins_with word line
 
 -- the line is of a kind that is not read yet
 abbrev pub is_later_line : List ℕ → Bool

@@ -4,25 +4,12 @@ use Rattle.std.specs.Fmt.{decimal}
 use Rattle.mg_word.specs.Table.{Symbol}
 use Rattle.mg_word.specs.Facts.{ProblemData}
 use Rattle.mg_word.specs.Spelling.{spelled, spelled_lit}
+use Rattle.term_text.specs.Brackets.{listed}
 use Rattle.tree_checker.specs.Docs.{IsWellFormed}
 use Rattle.tree_checker.specs.declared.doc.Doc.{Doc}
 use Rattle.tree_checker.specs.declared.doc.LemmaBlock.{LemmaBlock}
 use Rattle.tree_checker.specs.declared.doc.TreeLine.{TreeLine}
 use Rattle.tree_checker.specs.declared.doc.TreeLine.TheVariants.{Form as FormLine, Clash, Barred, By}
-
--- behind an item of a list: a comma before each further one, and the closing bracket
-abbrev pub after_items : List (List ℕ) → List ℕ
-after_items [] = 93 ∷ []
-after_items (item ∷ items) = 44 ∷ (item ++ after_items items)
-
--- behind the opening bracket of a list
-abbrev pub in_brackets : List (List ℕ) → List ℕ
-in_brackets [] = 93 ∷ []
-in_brackets (item ∷ items) = item ++ after_items items
-
--- items between square brackets, separated by commas
-abbrev pub listed : List (List ℕ) → List ℕ
-listed items = 91 ∷ in_brackets items
 
 -- a form's number and terms that are spelled so
 abbrev pub form_line : ℕ → List (List ℕ) → List ℕ

@@ -4,12 +4,9 @@ ghost use Rattle.std.specs.Prelude.{◌≡◌, List, MatchResult, MatchOption, �
 ghost use Rattle.proof_tree.specs.DocFaults.{is_later_line};
 ghost use Rattle.proof_tree.specs.Lines.{IsOnlyLine, IsNoLine, IsSplitSo, IsOnlySplit, IsNumbered, IsRefused};
 
-use crate::lists::{TermList, read_list};
-use crate::numbers::take_number;
-use crate::slices::{skip, starts};
-use crate::terms::Buffers;
 use mg_word::{NoMemory, Problem, Subst};
 use std::alloc::Global;
+use term_text::{Buffers, TermList, read_list, skip, starts, take_number};
 use tree_checker::{DocKind, TreeLine};
 
 /// Why a line was not read.

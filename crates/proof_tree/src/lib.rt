@@ -4,15 +4,12 @@
 mod form_lines;
 mod laws;
 mod lines;
-mod lists;
-mod names;
-mod numbers;
 mod reading;
-mod slices;
-mod terms;
+mod writing;
 
-pub use laws::one_document_fault;
+pub use laws::{documents_are_spelled_apart, one_document_fault};
 pub use reading::read_doc;
+pub use writing::write_doc;
 
 #[cfg(test)]
 mod tests;

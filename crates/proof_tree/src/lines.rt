@@ -1,11 +1,11 @@
 //! The lines of a text, without those that begin with `%`.
 
-ghost use Rattle.std.specs.Prelude.{◌≡◌, ◌<◌, MatchResult, IfOk, length, true};
+ghost use Rattle.std.specs.Prelude.{◌≡◌, ◌<◌, MatchResult, IfOk, length, take_while, true};
 ghost use Rattle.proof_tree.specs.DocText.{bare};
-ghost use Rattle.proof_tree.specs.DocFaults.{BeginsWithLine, has_no_feed};
+ghost use Rattle.proof_tree.specs.DocFaults.{BeginsWithLine, has_no_feed, is_no_feed};
 ghost use Rattle.proof_tree.specs.Lines.{EndsSo};
 
-use crate::slices::{front, line_length, skip, starts};
+use term_text::{front, skip, starts};
 
 /// How a text without a further line ends.
 #[derive(Clone, Copy, Debug, PartialEq, Eq)]
@@ -33,6 +33,13 @@ pub fn next_line(bytes: &[u8]) -> Result<(&[u8], &[u8]), TextEnd>
         }
         rest = after;
     }
+}
+
+// How many bytes are before the first line feed.
+fn line_length(bytes: &[u8]) -> usize
+    ensures { result ≡ length (take_while is_no_feed bytes.now) }
+{
+    bytes.iter().take_while(|byte| **byte != b'\n').count()
 }
 
 // How a text without a line feed ends.

@@ -10,9 +10,9 @@ ghost use Rattle.proof_tree.specs.Lines.{TreeFault, IsOnlyTree, EarlyFault, faul
 
 use crate::form_lines::{LineFault, is_later, read_line};
 use crate::lines::{TextEnd, next_line};
-use crate::terms::Buffers;
 use mg_word::{Items, NoMemory, Problem};
 use std::alloc::Global;
+use term_text::Buffers;
 use tree_checker::{Doc, DocFault, DocKind, TreeLine};
 
 // What is behind the header.

@@ -15,7 +15,8 @@ use Rattle.mg_meaning.specs.Refuting.{IsClauseInstance, Refutes}
 use Rattle.tree_checker.specs.Trees.{Trees, done, tree, preorder, Branch, split_by, conclusions_at, empty_branch}
 use Rattle.mg_meaning.specs.Folding.{Pair}
 use Rattle.tree_checker.specs.Closing.{IsFine, Close, Closes}
-use Rattle.tree_checker.specs.Docs.{IsWordOf, LineFits, lemma_of, lemmas_of, branch_of, BlocksClose, IsBlock, IsWellFormed, Accepts, Rejects}
+use Rattle.term_text.specs.Words.{IsWordOf}
+use Rattle.tree_checker.specs.Docs.{LineFits, lemma_of, lemmas_of, branch_of, BlocksClose, IsBlock, IsWellFormed, Accepts, Rejects}
 use Rattle.tree_checker.specs.Instances.{line_instances, tree_instances, block_instances, instances_of}
 use Rattle.tree_checker.specs.declared.doc.Doc.{Doc}
 use Rattle.tree_checker.specs.declared.doc.LemmaBlock.{LemmaBlock}

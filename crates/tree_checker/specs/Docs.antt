@@ -1,7 +1,8 @@
 -- Documents: which are well formed, which are accepted, and which line is the first that breaks a rule.
 use Rattle.std.specs.Prelude.{◌≡◌, ℕ, ◌+◌, ◌^◌, ◌<◌, ◌≤◌, List, [], ◌∷◌, length, take, map, All, IsSome, IsTrue, Some, slice_get, ◌⊎◌}
 use Rattle.mg_word.specs.Table.{Symbol}
-use Rattle.mg_word.specs.Words.{fits, numbered}
+use Rattle.mg_word.specs.Words.{numbered}
+use Rattle.term_text.specs.Words.{IsWordOf, AreLitsOf}
 use Rattle.mg_word.specs.Sets.{is_rising}
 use Rattle.mg_word.specs.Facts.{ProblemData}
 use Rattle.mg_word.specs.declared.lit.Lit.{Lit}
@@ -27,18 +28,6 @@ lemmas_of blocks = map lemma_of blocks
 -- what a block's tree closes: its inside held and its outside barred
 abbrev pub branch_of : LemmaBlock → Branch
 branch_of block = record { held = block.inside; barred = block.outside }
-
--- the most symbols of a word of a document
-abbrev pub most_symbols : ℕ
-most_symbols = 65536
-
--- the word fits the table, and is not too long
-abbrev pub IsWordOf : List Symbol → List ℕ → Type 0
-IsWordOf table word = IsTrue (fits table word) × (length word ≤ most_symbols)
-
--- the atom of each literal is a word of the table
-abbrev pub AreLitsOf : List Symbol → List Lit → Type 0
-AreLitsOf table lits = All (λ lit. IsWordOf table lit.word) lits
 
 -- the terms and literals of the line are words of the table, and its number of a block fits 32 bits
 abbrev pub LineFits : List Symbol → TreeLine → Type 0
@@ -72,21 +61,21 @@ pub record IsBlock (problem : ProblemData) (block : LemmaBlock) : Type 0 where
   pub lines : AreLines problem block.tree
 
 -- the lines before all blocks: the header
-abbrev pub header_lines : ℕ
-header_lines = 1
+abbrev pub header_count : ℕ
+header_count = 1
 
 -- the lines of a block before its tree: its number, its inside and its outside
-abbrev pub block_lines : ℕ
-block_lines = 3
+abbrev pub block_head_count : ℕ
+block_head_count = 3
 
 -- the lines of the root before its tree: the word `root`
-abbrev pub root_lines : ℕ
-root_lines = 1
+abbrev pub root_head_count : ℕ
+root_head_count = 1
 
 -- how many lines a text has up to the end of these blocks
 abbrev pub lines_before : List LemmaBlock → ℕ
-lines_before [] = header_lines
-lines_before (block ∷ blocks) = lines_before blocks + (block_lines + length block.tree)
+lines_before [] = header_count
+lines_before (block ∷ blocks) = lines_before blocks + (block_head_count + length block.tree)
 
 -- the document is one of the problem: the condition of all that is said of documents
 pub record IsWellFormed (problem : ProblemData) (doc : Doc) : Type 0 where
@@ -95,7 +84,7 @@ pub record IsWellFormed (problem : ProblemData) (doc : Doc) : Type 0 where
   -- numbers of blocks fit 32 bits
   pub few : length doc.lemmas < 2 ^ 32
   -- and those of lines 63: all before the root's, one for the root and those of its tree
-  pub short : lines_before doc.lemmas + root_lines + length doc.root < 2 ^ 63
+  pub short : lines_before doc.lemmas + root_head_count + length doc.root < 2 ^ 63
 
 -- of the first n blocks, each one's tree closes from its own sets, with the blocks before it as lemmas
 abbrev pub BlocksClose : List Form → List LemmaBlock → ℕ → Type 0
@@ -118,12 +107,12 @@ pub record InBlock (problem : ProblemData) (doc : Doc) (reject : Reject) : Type 
   pub block : LemmaBlock
   pub block_is : slice_get doc.lemmas at ≡ Some block
   pub before : BlocksClose problem.forms doc.lemmas at
-  pub rejects : RejectsAt problem.forms (lemmas_of (take at doc.lemmas)) (branch_of block) block.tree (lines_before (take at doc.lemmas) + block_lines + 1) reject
+  pub rejects : RejectsAt problem.forms (lemmas_of (take at doc.lemmas)) (branch_of block) block.tree (lines_before (take at doc.lemmas) + block_head_count + 1) reject
 
 -- the first broken line is in the root's tree
 pub record InRoot (problem : ProblemData) (doc : Doc) (reject : Reject) : Type 0 where
   pub before : BlocksClose problem.forms doc.lemmas (length doc.lemmas)
-  pub rejects : RejectsAt problem.forms (lemmas_of doc.lemmas) empty_branch doc.root (lines_before doc.lemmas + root_lines + 1) reject
+  pub rejects : RejectsAt problem.forms (lemmas_of doc.lemmas) empty_branch doc.root (lines_before doc.lemmas + root_head_count + 1) reject
 
 -- the answer names the first line that breaks a rule and the first rule that it breaks, or that memory ran out
 abbrev pub Rejects : ProblemData → Doc → Reject → Type 0

@@ -2,7 +2,8 @@
 
 ghost use Rattle.std.specs.Prelude.{◌≡◌, ◌≤◌, [], ◌∷◌, false, true, IfOk, IsTrue, length, if◌then◌else◌};
 ghost use Rattle.tree_checker.specs.Trees.{conclusions_at};
-ghost use Rattle.tree_checker.specs.Docs.{AreLines, AreLitsOf, IsBlock, IsLemmaSet, LineFits, IsKnown};
+ghost use Rattle.tree_checker.specs.Docs.{AreLines, IsBlock, IsLemmaSet, LineFits, IsKnown};
+ghost use Rattle.term_text.specs.Words.{AreLitsOf};
 ghost use Rattle.tree_checker.specs.Samples.{symbol_p, literal_p, clause_p, form_p, sample};
 
 use crate::{Doc, LemmaBlock, Reject, TreeLine, Why, check_doc};

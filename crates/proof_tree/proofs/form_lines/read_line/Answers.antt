@@ -1,7 +1,7 @@
 use Rattle.std.proofs.Common.{◌≡◌, ◌≢◌, true, AllPairs, length, sym, ap, ◌∙◌, subst}
 use Rattle.std.specs.List.{list_all}
 use Rattle.mg_word.specs.Facts.{is_symbol}
-use Rattle.proof_tree.specs.Lists.{IsListRead}
+use Rattle.term_text.specs.Lists.{IsListRead}
 use Rattle.proof_tree.proofs.FormLines.{no_raw_line, no_split, no_list, line_found}
 use Rattle.proof_tree.proofs.form_lines.read_line.Goals as goal
 

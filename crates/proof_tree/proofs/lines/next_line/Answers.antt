@@ -1,8 +1,9 @@
 use Rattle.std.proofs.Common.{◌+◌, [], ◌∷◌, length-drop, ◌++◌, length, take, drop, sym, ap, ◌∙◌, subst, arith}
 use Rattle.std.proofs.lemmas.List.{drop-drop}
 use Rattle.proof_tree.specs.DocText.{bare}
-use Rattle.proof_tree.specs.DocFaults.{is_no_feed, BeginsWithLine, begins_with}
-use Rattle.proof_tree.proofs.Texts.{cut_at, cut_whole, cut_short}
+use Rattle.proof_tree.specs.DocFaults.{is_no_feed, BeginsWithLine}
+use Rattle.term_text.specs.Fronts.{begins_with}
+use Rattle.term_text.proofs.Texts.{cut_at, cut_whole, cut_short}
 use Rattle.proof_tree.proofs.BareLines.{line_kept, line_passed, feed_behind}
 use Rattle.proof_tree.proofs.lines.next_line.Goals as goal
 

@@ -1,7 +1,6 @@
 use Rattle.std.proofs.Common.{length, sym, subst, ◌≤◌, arith}
 use Rattle.std.proofs.lemmas.List.{take_all}
-use Rattle.tree_checker.specs.Docs.{lemmas_of}
-use Rattle.tree_checker.specs.Docs.{IsKnown}
+use Rattle.tree_checker.specs.Docs.{lemmas_of, IsKnown}
 use Rattle.tree_checker.proofs.Verdicts.{open_at, closed_at_end, reached_more, rejects_at}
 use Rattle.tree_checker.proofs.check.check_tree.Goals as goal
 

@@ -1,6 +1,0 @@
-use Rattle.std.proofs.Common.{◌∙◌}
-use Rattle.proof_tree.proofs.Cuts.{starts_is}
-use Rattle.proof_tree.proofs.slices.starts.Goals as goal
-
-pub returns : goal.returns
-returns c = c.starts_with.ensures.value ∙ starts_is c.args.word.now c.args.bytes.now

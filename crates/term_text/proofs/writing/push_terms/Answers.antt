@@ -1,0 +1,14 @@
+use Rattle.std.proofs.Common.{length, ◌≤◌, ap, ◌++◌, ◌∙◌, arith}
+use Rattle.mg_word.specs.Spelling.{spelled}
+use Rattle.term_text.proofs.Joined.{list_more, list_end}
+use Rattle.term_text.proofs.writing.push_terms.Goals as goal
+
+pub loop-i-preserved : goal.loop-i-preserved
+loop-i-preserved c =
+    rw (c.in_ok-push_word.ensures, c.in_ok-push_comma.ensures)
+    (list_more (spelled c.args.symbols.now) c.args.terms.now c.loop-i.i c.index-terms-i.result c.args.into.now.items c.loop-i.into.items c.loop-i-test.true c.index-terms-i.is c.loop-i.invariant)
+
+pub returns : goal.returns
+returns c =
+    let past : length c.args.terms.now ≤ c.loop-i.i = omega arith in
+    rw c.in_ok-push-2.ensures.items (list_end (spelled c.args.symbols.now) c.args.terms.now c.loop-i.i c.args.into.now.items c.loop-i.into.items past c.loop-i.invariant)
