@@ -1,53 +1,53 @@
--- What the table accepts from a place, and what its tests say of a token.
+-- What the table accepts from a position, and what its tests say of a token.
 use Rattle.std.proofs.Common.{◌≡◌, ℕ, Bool, true, false, not, ◌==◌, ◌⊎◌, inl, inr, List, [], ◌∷◌, Option, Some, None, codes, refl, sym, ap, subst, bytes_eq, arith}
 use Rattle.std.proofs.lemmas.Bool.Decides.{nat_tests}
 use Rattle.std.proofs.lemmas.Slice.Eq.{bytes_eq-Decides}
 use Rattle.cnf_grammar.specs.declared.brackets.Bracket.{Bracket}
-use Rattle.cnf_grammar.specs.declared.mode.Mode.{Mode}
-use Rattle.cnf_grammar.specs.declared.place.Place.{Place}
+use Rattle.cnf_grammar.specs.declared.state.State.{State}
+use Rattle.cnf_grammar.specs.declared.position.Position.{Position}
 use Rattle.cnf_grammar.specs.Shapes.{Shape, Lower, Upper, Quoted, Distinct, Dollar, Number, NotEqual, Punct, is_mark, is_keyword, is_defined, is_lower, is_word, is_name, is_simple_term, is_file_name}
 use Rattle.cnf_grammar.specs.Trees.{Word, bare_word, quoted_word, Name, word_name, number_name, FileName, bare_file, quoted_file, Term, variable, number, distinct}
 use Rattle.cnf_grammar.specs.Spelling.{word_token, name_token, file_token, spell_term}
 use Rattle.cnf_grammar.specs.Table.{or_else, when, step, run_from, is_end}
 
--- the place with these parts
-abbrev pub place : Mode → ℕ → ℕ → List Bracket → Place
-place mode level depth brackets = record { mode = mode; level = level; depth = depth; brackets = brackets }
+-- the position with these parts
+abbrev pub position : State → ℕ → ℕ → List Bracket → Position
+position state level depth brackets = record { state = state; level = level; depth = depth; brackets = brackets }
 
--- the tokens lead from the place to an end
-abbrev pub AcceptsFrom : Option Place → List Shape → Type 0
+-- the tokens lead from the position to an end
+abbrev pub AcceptsFrom : Option Position → List Shape → Type 0
 AcceptsFrom None tokens = ⊥
 AcceptsFrom (Some p) [] = is_end p ≡ true
 AcceptsFrom (Some p) (s ∷ tokens) = AcceptsFrom (step p s) tokens
 
--- the same of a place that is there
-abbrev pub Accepts : Place → List Shape → Type 0
+-- the same of a position that is there
+abbrev pub Accepts : Position → List Shape → Type 0
 Accepts p tokens = AcceptsFrom (Some p) tokens
 
--- accepting, by the place that a run ends at
-pub accepts-run : (o : Option Place) (tokens : List Shape) → AcceptsFrom o tokens → (p : Place) × (run_from o tokens ≡ Some p) × (is_end p ≡ true)
+-- accepting, by the position that a run ends at
+pub accepts-run : (o : Option Position) (tokens : List Shape) → AcceptsFrom o tokens → (p : Position) × (run_from o tokens ≡ Some p) × (is_end p ≡ true)
 accepts-run None tokens a = absurd a
 accepts-run (Some p) [] a = (p, refl, a)
 accepts-run (Some p) (s ∷ tokens) a = accepts-run (step p s) tokens a
 
 -- a run that ends where a file may end is accepting
-pub run-accepts : (o : Option Place) (tokens : List Shape) (p : Place) → run_from o tokens ≡ Some p → is_end p ≡ true → AcceptsFrom o tokens
+pub run-accepts : (o : Option Position) (tokens : List Shape) (p : Position) → run_from o tokens ≡ Some p → is_end p ≡ true → AcceptsFrom o tokens
 run-accepts None tokens p e h = cc
 run-accepts (Some q) [] p e h = let same : q ≡ p = cc in subst (λ x. is_end x ≡ true) (sym same) h
 run-accepts (Some q) (s ∷ tokens) p e h = run-accepts (step q s) tokens p e h
 
 -- of two alternatives one was taken
-pub chosen : (P : Option Place → Type 0) (test : Bool) (p : Place) (o : Option Place) → P (or_else test p o) → ((test ≡ true) × P (Some p)) ⊎ ((test ≡ false) × P o)
+pub chosen : (P : Option Position → Type 0) (test : Bool) (p : Position) (o : Option Position) → P (or_else test p o) → ((test ≡ true) × P (Some p)) ⊎ ((test ≡ false) × P o)
 chosen P true p o h = inl (refl, h)
 chosen P false p o h = inr (refl, h)
 
 -- of one alternative and none, the one was taken where none is ruled out
-pub chosen-when : (P : Option Place → Type 0) → (P None → ⊥) → (test : Bool) (p : Place) → P (when test p) → (test ≡ true) × P (Some p)
+pub chosen-when : (P : Option Position → Type 0) → (P None → ⊥) → (test : Bool) (p : Position) → P (when test p) → (test ≡ true) × P (Some p)
 chosen-when P none true p h = (refl, h)
 chosen-when P none false p h = absurd (none h)
 
 -- a test that what follows rules out is passed over
-pub passed : (test : Bool) (p : Place) (o : Option Place) (tokens : List Shape) → (test ≡ true → AcceptsFrom o tokens → ⊥) → AcceptsFrom o tokens → AcceptsFrom (or_else test p o) tokens
+pub passed : (test : Bool) (p : Position) (o : Option Position) (tokens : List Shape) → (test ≡ true → AcceptsFrom o tokens → ⊥) → AcceptsFrom o tokens → AcceptsFrom (or_else test p o) tokens
 passed true p o tokens h a = absurd (h refl a)
 passed false p o tokens h a = a
 

@@ -1,9 +1,9 @@
--- From each place some tokens lead to an end.
+-- From each position some tokens lead to an end.
 use Rattle.std.proofs.Common.{ℕ, zero, suc, List, [], ◌∷◌, ◌++◌, None, refl}
 use Rattle.cnf_grammar.specs.declared.brackets.Bracket.{Bracket}
-use Rattle.cnf_grammar.specs.declared.mode.Mode.{Mode}
-use Rattle.cnf_grammar.specs.declared.mode.Mode.TheVariants.{Statement, ClauseWord, NameStart, NameRead, RoleStart, RoleRead, FormulaStart, LiteralStart, AtomStart, WordRead, TermStart, TermRead, FormulaClosed, SourceStart, Source, InfoStart, Info, InfoClosed, ClauseClosed, IncludeWord, FileStart, FileRead, SelectionStart, SelectionOpen, SelectedStart, SelectedRead, SelectionClosed, IncludeClosed}
-use Rattle.cnf_grammar.specs.declared.place.Place.{Place}
+use Rattle.cnf_grammar.specs.declared.state.State.{State}
+use Rattle.cnf_grammar.specs.declared.state.State.TheVariants.{Statement, ClauseWord, NameStart, NameRead, RoleStart, RoleRead, FormulaStart, LiteralStart, AtomStart, WordRead, TermStart, TermRead, FormulaClosed, SourceStart, Source, InfoStart, Info, InfoClosed, ClauseClosed, IncludeWord, FileStart, FileRead, SelectionStart, SelectionOpen, SelectedStart, SelectedRead, SelectionClosed, IncludeClosed}
+use Rattle.cnf_grammar.specs.declared.position.Position.{Position}
 use Rattle.cnf_grammar.specs.Shapes.{Shape, Lower, NotEqual, Punct, left_round, right_round, left_square, right_square, comma, dot}
 use Rattle.cnf_grammar.specs.Trees.{bare_word, word_name, bare_file, variable, no_arguments, no_terms, truth, positive, disjunction, no_tokens, single, no_annotations, every_clause}
 use Rattle.cnf_grammar.specs.Spelling.{closing, name_token, file_token, spell_term, spell_arguments, spell_terms, spell_atom, spell_literal, spell_literals, spell_formula, spell_balanced, spell_parts, spell_source, spell_items, spell_info, spell_optional_info, spell_annotations, spell_more_names, spell_names, spell_selection}
@@ -84,8 +84,8 @@ after_file = with_tree spell_selection (IncludeEnds Goes) every_clause include_e
 file_starts : Some_with (FileStarts Goes)
 file_starts = with_one file_token (AfterFile Goes) (bare_file []) after_file
 
--- something is left at each place
-pub rest_lives : (mode : Mode) (level depth : ℕ) (brackets : List Bracket) → Some_with (rest_at Goes mode level depth brackets)
+-- something is left at each position
+pub rest_lives : (state : State) (level depth : ℕ) (brackets : List Bracket) → Some_with (rest_at Goes state level depth brackets)
 rest_lives Statement level depth brackets = ([], λ l d b. refl)
 rest_lives ClauseWord level depth brackets = with_next left_round (NameStarts Goes) name_starts
 rest_lives NameStart level depth brackets = name_starts
@@ -115,6 +115,6 @@ rest_lives SelectedRead level depth brackets = after_selected
 rest_lives SelectionClosed level depth brackets = include_ends
 rest_lives IncludeClosed level depth brackets = closed
 
--- each place can be completed
-pub completed : (p : Place) → (tokens : List Shape) × Accepts p tokens
-completed p = let w = rest_lives p.mode p.level p.depth p.brackets in (w.0, accepts-rest p.mode p.level p.depth p.brackets w.0 w.1)
+-- each position can be completed
+pub completed : (p : Position) → (tokens : List Shape) × Accepts p tokens
+completed p = let w = rest_lives p.state p.level p.depth p.brackets in (w.0, accepts-rest p.state p.level p.depth p.brackets w.0 w.1)

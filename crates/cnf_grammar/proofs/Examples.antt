@@ -1,6 +1,6 @@
 -- Small token lists, accepted and refused as worked by hand.
 use Rattle.std.proofs.Common.{◌≡◌, Bool, true, false, List, [], ◌∷◌, ◌++◌, Option, Some, None, codes, refl}
-use Rattle.cnf_grammar.specs.declared.place.Place.{Place}
+use Rattle.cnf_grammar.specs.declared.position.Position.{Position}
 use Rattle.cnf_grammar.specs.Shapes.{Shape, Lower, Upper, Quoted, Distinct, Dollar, Number, NotEqual, Punct, left_round, right_round, left_square, right_square, comma, dot, bar, tilde}
 use Rattle.cnf_grammar.specs.Table.{run, start, is_end}
 
@@ -14,7 +14,7 @@ abbrev verdict_of : Bool → Verdict
 verdict_of true = whole
 verdict_of false = unfinished
 
-abbrev verdict : Option Place → Verdict
+abbrev verdict : Option Position → Verdict
 verdict None = refused
 verdict (Some p) = verdict_of (is_end p)
 
@@ -55,7 +55,7 @@ cut_short = refl
 no_dot : reading (head ++ p ∷ (Punct right_round ∷ [])) ≡ unfinished
 no_dot = refl
 
--- cnf(a,axiom,p) and a second cnf in place of the dot
+-- cnf(a,axiom,p) and a second cnf in position of the dot
 dot_left_out : reading (head ++ p ∷ (Punct right_round ∷ (Lower (codes "cnf") ∷ []))) ≡ refused
 dot_left_out = refl
 
@@ -131,6 +131,6 @@ no_file_name = refl
 comma_at_end_of_list : reading (include_head ++ p ∷ (Punct comma ∷ (Punct left_square ∷ (p ∷ (Punct comma ∷ (Punct right_square ∷ [])))))) ≡ refused
 comma_at_end_of_list = refl
 
--- fof( in place of a clause
+-- fof( in position of a clause
 other_statement : reading (Lower (codes "fof") ∷ []) ≡ refused
 other_statement = refl

@@ -6,16 +6,16 @@ use Rattle.std.specs.Fmt.{decimal}
 use Rattle.std.specs.Str.Parse.{digits_value}
 use Rattle.cnf_grammar.specs.Shapes.{Shape, Lower, Upper, Quoted, Distinct, Dollar, Number, NotEqual, Punct, left_round, right_round, left_square, right_square, comma, is_keyword, is_mark}
 use Rattle.cnf_grammar.specs.Conclude.{gives_conclusions, spell_more_numbers, spell_numbers, item_end, has_word_at, may_follow, are_conclusions_above, values, IsConcludeItem, BeginsConcludeItem}
-use Rattle.cnf_grammar.specs.declared.item.ItemPlace.{ItemPlace}
+use Rattle.cnf_grammar.specs.declared.item.ItemState.{ItemState}
 use Rattle.cnf_grammar.specs.Items.{item_start, word_read, item_open, list_open, number_read, number_start, list_closed, item_closed, other_item, names_above, at_item, number_at, item_step, item_run}
 use Rattle.mg_word.proofs.Members.{both_true, and_true}
 use Rattle.cnf_grammar.proofs.Accepting.{mark_is, keyword_is}
 
-abbrev is_closed : ItemPlace → Bool
+abbrev is_closed : ItemState → Bool
 is_closed item_closed = true
 is_closed _ = false
 
-pick : (P : Option ItemPlace → Type 0) (test : Bool) (p : ItemPlace) (o : Option ItemPlace) → P (at_item test p o) → ((test ≡ true) × P (Some p)) ⊎ ((test ≡ false) × P o)
+pick : (P : Option ItemState → Type 0) (test : Bool) (p : ItemState) (o : Option ItemState) → P (at_item test p o) → ((test ≡ true) × P (Some p)) ⊎ ((test ≡ false) × P o)
 pick P true p o h = inl (refl, h)
 pick P false p o h = inr (refl, h)
 
@@ -47,13 +47,13 @@ some_above (word ∷ words) (suc last) h = let w = some_above words last h in (s
 
 module _ (words : List Bool) where
   -- the tokens lead to the end of a right item
-  abbrev ItemEnds : Option ItemPlace → List Shape → Type 0
+  abbrev ItemEnds : Option ItemState → List Shape → Type 0
   ItemEnds None tokens = ⊥
   ItemEnds (Some p) [] = is_closed p ≡ true
   ItemEnds (Some p) (s ∷ tokens) = ItemEnds (item_step words p s) tokens
 
   -- what is left of a right item
-  abbrev Left : ItemPlace → List Shape → Type 0
+  abbrev Left : ItemState → List Shape → Type 0
   Left item_open tokens = (texts : List (List ℕ)) × (tokens ≡ Punct left_square ∷ (spell_numbers texts ++ item_end)) × (are_conclusions_above words 0 (values texts) ≡ true)
   Left list_open tokens = (texts : List (List ℕ)) × (tokens ≡ spell_numbers texts ++ item_end) × (are_conclusions_above words 0 (values texts) ≡ true)
   Left (number_read last) tokens = (texts : List (List ℕ)) × (tokens ≡ spell_more_numbers texts ++ item_end) × (are_conclusions_above words last (values texts) ≡ true)
@@ -62,7 +62,7 @@ module _ (words : List Bool) where
   Left item_closed tokens = tokens ≡ []
   Left _ tokens = Unit {0}
 
-  abbrev LeftFrom : Option ItemPlace → List Shape → Type 0
+  abbrev LeftFrom : Option ItemState → List Shape → Type 0
   LeftFrom None tokens = ⊥
   LeftFrom (Some p) tokens = Left p tokens
 
@@ -84,7 +84,7 @@ module _ (words : List Bool) where
   cons_same : (s t : Shape) (xs ys : List Shape) → s ≡ t → xs ≡ ys → s ∷ xs ≡ t ∷ ys
   cons_same s t xs ys e f = ap₂ (λ x u. x ∷ u) e f
 
-  left_step : (p : ItemPlace) (s : Shape) (tokens : List Shape) → LeftFrom (item_step words p s) tokens → Left p (s ∷ tokens)
+  left_step : (p : ItemState) (s : Shape) (tokens : List Shape) → LeftFrom (item_step words p s) tokens → Left p (s ∷ tokens)
   left_step item_start s tokens h = tt
   left_step word_read s tokens h = tt
   left_step other_item s tokens h = tt
@@ -114,20 +114,20 @@ module _ (words : List Bool) where
       ]
   left_step item_closed s tokens h = absurd h
 
-  left_end : (p : ItemPlace) → is_closed p ≡ true → Left p []
+  left_end : (p : ItemState) → is_closed p ≡ true → Left p []
   left_end item_closed h = refl
   left_end item_start h = tt
   left_end word_read h = tt
   left_end other_item h = tt
   left_end _ h = cc
 
-  left_all : (o : Option ItemPlace) (tokens : List Shape) → ItemEnds o tokens → LeftFrom o tokens
+  left_all : (o : Option ItemState) (tokens : List Shape) → ItemEnds o tokens → LeftFrom o tokens
   left_all None tokens h = h
   left_all (Some p) [] h = left_end p h
   left_all (Some p) (s ∷ tokens) h = left_step p s tokens (left_all (item_step words p s) tokens h)
 
   -- a right item is followed to its end
-  take_item : (test : Bool) (p : ItemPlace) (o : Option ItemPlace) (tokens : List Shape) → test ≡ true → ItemEnds (Some p) tokens → ItemEnds (at_item test p o) tokens
+  take_item : (test : Bool) (p : ItemState) (o : Option ItemState) (tokens : List Shape) → test ≡ true → ItemEnds (Some p) tokens → ItemEnds (at_item test p o) tokens
   take_item true p o tokens h a = a
   take_item false p o tokens h a = cc
 
@@ -147,18 +147,18 @@ module _ (words : List Bool) where
       (ends_more (digits_value 10 text) texts c.1)
 
   -- where a right item can still come
-  abbrev Live : ItemPlace → Type 0
+  abbrev Live : ItemState → Type 0
   Live item_start = ⊥
   Live word_read = ⊥
   Live other_item = ⊥
   Live (number_start last) = names_above words last ≡ true
   Live _ = Unit {0}
 
-  abbrev LiveFrom : Option ItemPlace → Type 0
+  abbrev LiveFrom : Option ItemState → Type 0
   LiveFrom None = Unit {0}
   LiveFrom (Some p) = Live p
 
-  live_at : (test : Bool) (p : ItemPlace) (o : Option ItemPlace) → (test ≡ true → Live p) → LiveFrom o → LiveFrom (at_item test p o)
+  live_at : (test : Bool) (p : ItemState) (o : Option ItemState) → (test ≡ true → Live p) → LiveFrom o → LiveFrom (at_item test p o)
   live_at true p o h k = h refl
   live_at false p o h k = k
 
@@ -173,7 +173,7 @@ module _ (words : List Bool) where
   number_live last NotEqual = tt
   number_live last (Punct byte) = tt
 
-  live_step : (p : ItemPlace) (s : Shape) → Live p → LiveFrom (item_step words p s)
+  live_step : (p : ItemState) (s : Shape) → Live p → LiveFrom (item_step words p s)
   live_step item_start s h = absurd h
   live_step word_read s h = absurd h
   live_step other_item s h = absurd h
@@ -186,12 +186,12 @@ module _ (words : List Bool) where
   live_step list_closed s h = live_at (is_mark right_round s) item_closed None (λ e. tt) tt
   live_step item_closed s h = tt
 
-  live_run : (o : Option ItemPlace) (tokens : List Shape) → LiveFrom o → LiveFrom (item_run words o tokens)
+  live_run : (o : Option ItemState) (tokens : List Shape) → LiveFrom o → LiveFrom (item_run words o tokens)
   live_run None tokens h = h
   live_run (Some p) [] h = h
   live_run (Some p) (s ∷ tokens) h = live_run (item_step words p s) tokens (live_step p s h)
 
-  completes : length words < 2 ^ 64 → (p : ItemPlace) → Live p → (tokens : List Shape) × ItemEnds (Some p) tokens
+  completes : length words < 2 ^ 64 → (p : ItemState) → Live p → (tokens : List Shape) × ItemEnds (Some p) tokens
   completes few item_start h = absurd h
   completes few word_read h = absurd h
   completes few other_item h = absurd h
@@ -210,26 +210,26 @@ module _ (words : List Bool) where
       )
 
   -- runs in two parts
-  ends_split : (o : Option ItemPlace) (tokens rest : List Shape) → ItemEnds o (tokens ++ rest) → ItemEnds (item_run words o tokens) rest
+  ends_split : (o : Option ItemState) (tokens rest : List Shape) → ItemEnds o (tokens ++ rest) → ItemEnds (item_run words o tokens) rest
   ends_split None tokens rest h = h
   ends_split (Some p) [] rest h = h
   ends_split (Some p) (s ∷ tokens) rest h = ends_split (item_step words p s) tokens rest h
 
-  ends_join : (o : Option ItemPlace) (tokens rest : List Shape) → ItemEnds (item_run words o tokens) rest → ItemEnds o (tokens ++ rest)
+  ends_join : (o : Option ItemState) (tokens rest : List Shape) → ItemEnds (item_run words o tokens) rest → ItemEnds o (tokens ++ rest)
   ends_join None tokens rest h = h
   ends_join (Some p) [] rest h = h
   ends_join (Some p) (s ∷ tokens) rest h = ends_join (item_step words p s) tokens rest h
 
-  run_ends : (o : Option ItemPlace) (tokens : List Shape) → item_run words o tokens ≡ Some item_closed → ItemEnds o tokens
+  run_ends : (o : Option ItemState) (tokens : List Shape) → item_run words o tokens ≡ Some item_closed → ItemEnds o tokens
   run_ends None tokens e = cc
   run_ends (Some p) [] e = let same : item_closed ≡ p = cc in ap is_closed (sym same)
   run_ends (Some p) (s ∷ tokens) e = run_ends (item_step words p s) tokens e
 
-  only_closed : (p : ItemPlace) → is_closed p ≡ true → p ≡ item_closed
+  only_closed : (p : ItemState) → is_closed p ≡ true → p ≡ item_closed
   only_closed item_closed h = refl
   only_closed _ h = cc
 
-  ends_run : (o : Option ItemPlace) (tokens : List Shape) → ItemEnds o tokens → item_run words o tokens ≡ Some item_closed
+  ends_run : (o : Option ItemState) (tokens : List Shape) → ItemEnds o tokens → item_run words o tokens ≡ Some item_closed
   ends_run None tokens h = absurd h
   ends_run (Some p) [] h = ap Some (only_closed p h)
   ends_run (Some p) (s ∷ tokens) h = ends_run (item_step words p s) tokens h
@@ -255,18 +255,18 @@ module _ (words : List Bool) where
         λ h. ends_run (Some item_start) tokens (item_whole tokens h),
       )
 
-  value_of : (o : Option ItemPlace) → IsSome o → (p : ItemPlace) × (o ≡ Some p)
+  value_of : (o : Option ItemState) → IsSome o → (p : ItemState) × (o ≡ Some p)
   value_of None h = absurd cc
   value_of (Some p) h = (p, refl)
 
-  some_ends : (o : Option ItemPlace) (rest : List Shape) → ItemEnds o rest → IsSome o
+  some_ends : (o : Option ItemState) (rest : List Shape) → ItemEnds o rest → IsSome o
   some_ends None rest h = absurd h
   some_ends (Some p) rest h = refl
 
   pub item_front : length words < 2 ^ 64 → (tokens : List Shape) → gives_conclusions tokens ≡ true → IsSome (item_run words (Some item_start) tokens) ↔ BeginsConcludeItem words tokens
   item_front few tokens g =
       let b = begins tokens g in (
-        λ h. let at : (p : ItemPlace) × (item_run words (Some item_open) b.0 ≡ Some p) = value_of (item_run words (Some item_open) b.0) (subst (λ u. IsSome (item_run words (Some item_start) u)) b.1 h) in
+        λ h. let at : (p : ItemState) × (item_run words (Some item_open) b.0 ≡ Some p) = value_of (item_run words (Some item_open) b.0) (subst (λ u. IsSome (item_run words (Some item_start) u)) b.1 h) in
             let live : Live at.0 = subst LiveFrom at.1 (live_run (Some item_open) b.0 tt) in
             let w = completes few at.0 live in
             let ends : ItemEnds (Some item_open) (b.0 ++ w.0) = ends_join (Some item_open) b.0 w.0 (subst (λ o. ItemEnds o w.0) (sym at.1) w.1) in

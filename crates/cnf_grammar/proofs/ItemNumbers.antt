@@ -8,15 +8,15 @@ use Rattle.cnf_grammar.specs.Conclude.{has_word_at, may_follow}
 use Rattle.cnf_grammar.specs.Shapes.{Number}
 use Rattle.cnf_grammar.specs.Items.{names_above, number_at, at_item, number_read}
 
-pub word_at : (words : List Bool) (place : ℕ) (d : Bool) → place < length words → has_word_at words place ≡ get_or words place d
-word_at [] place d h = absurd (omega arith)
+pub word_at : (words : List Bool) (position : ℕ) (d : Bool) → position < length words → has_word_at words position ≡ get_or words position d
+word_at [] position d h = absurd (omega arith)
 word_at (word ∷ words) zero d h = refl
-word_at (word ∷ words) (suc place) d h = word_at words place d (omega (arith, h))
+word_at (word ∷ words) (suc position) d h = word_at words position d (omega (arith, h))
 
-pub no_word_at : (words : List Bool) (place : ℕ) → length words ≤ place → has_word_at words place ≡ false
-no_word_at [] place h = refl
+pub no_word_at : (words : List Bool) (position : ℕ) → length words ≤ position → has_word_at words position ≡ false
+no_word_at [] position h = refl
 no_word_at (word ∷ words) zero h = absurd (omega (arith, h))
-no_word_at (word ∷ words) (suc place) h = no_word_at words place (omega (arith, h))
+no_word_at (word ∷ words) (suc position) h = no_word_at words position (omega (arith, h))
 
 -- the number at i is not above the last one, or names no word
 pass_by : (word : Bool) (rest : List Bool) (last i m : ℕ) → last - i ≡ m → (last ≤ i → word ≡ false) → names_above (word ∷ rest) m ≡ names_above rest (last - (i + 1))
@@ -70,5 +70,5 @@ pub number_none : (words : List Bool) (last : ℕ) (text : List ℕ) (plain : Bo
 number_none words last text true h = sym (ap (λ b. at_item b (number_read (digits_value 10 text)) None) (none_named words last (digits_value 10 text) h))
 number_none words last text false h = refl
 
-pub test_fails : (place n : ℕ) → n ≤ place → nat_lt place n ≡ false
-test_fails place n h = grind (arith, nat_tests)
+pub test_fails : (position n : ℕ) → n ≤ position → nat_lt position n ≡ false
+test_fails position n h = grind (arith, nat_tests)

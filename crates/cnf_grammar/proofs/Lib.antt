@@ -1,4 +1,5 @@
 pub mod Accepting
+pub mod Edges
 mod Rests
 mod Accepted
 mod Notes
@@ -13,10 +14,10 @@ mod Readings
 mod Unquoted
 mod OneTerm
 mod OneFile
-mod Variables
+pub mod Variables
 mod Collected
 mod Drafted
-mod ItemLaws
+pub mod ItemLaws
 mod ItemNumbers
 pub mod Whole
 mod Counting

@@ -1,15 +1,15 @@
 -- Annotations lead on as they are spelled, whatever is kept of their tokens. P says what holds where these tokens were
--- read, the place is this one, and those tokens are left.
+-- read, the position is this one, and those tokens are left.
 use Rattle.std.proofs.Common.{◌≡◌, ℕ, Bool, true, false, cond, not, ◌||◌, List, [], ◌∷◌, ◌++◌, Option, Some, None, refl, sym, ◌∙◌, ap, subst, append_assoc, append-nil}
 use Rattle.cnf_grammar.specs.declared.brackets.Bracket.{Bracket}
 use Rattle.cnf_grammar.specs.declared.brackets.Bracket.TheVariants.{Round, Square}
-use Rattle.cnf_grammar.specs.declared.mode.Mode.{Mode}
-use Rattle.cnf_grammar.specs.declared.place.Place.{Place}
+use Rattle.cnf_grammar.specs.declared.state.State.{State}
+use Rattle.cnf_grammar.specs.declared.position.Position.{Position}
 use Rattle.cnf_grammar.specs.Shapes.{Shape, Punct, left_round, right_round, left_square, right_square, comma, is_mark, is_bracket}
 use Rattle.cnf_grammar.specs.Trees.{Balanced, no_tokens, then_token, then_group, Part, single, group}
 use Rattle.cnf_grammar.specs.Spelling.{opening, closing, spell_balanced, spell_part, spell_parts}
 use Rattle.cnf_grammar.specs.Table.{or_else, when, any_token, within}
-use Rattle.cnf_grammar.proofs.Accepting.{place}
+use Rattle.cnf_grammar.proofs.Accepting.{position}
 
 -- what is no bracket is none of the four marks
 pub record IsPlain (s : Shape) : Type 0 where
@@ -31,20 +31,20 @@ is_plain s h =
     record { not_left_round = parts.0; not_right_round = parts.1; not_left_square = parts.2; not_right_square = parts.3 }
 
 -- a test passed over, and one taken
-pub skip_test : (Q : Option Place → Type 0) (test : Bool) (p : Place) (o : Option Place) → test ≡ false → Q o → Q (or_else test p o)
+pub skip_test : (Q : Option Position → Type 0) (test : Bool) (p : Position) (o : Option Position) → test ≡ false → Q o → Q (or_else test p o)
 skip_test Q true p o h a = cc
 skip_test Q false p o h a = a
 
-pub take_test : (Q : Option Place → Type 0) (test : Bool) (p : Place) (o : Option Place) → test ≡ true → Q (Some p) → Q (or_else test p o)
+pub take_test : (Q : Option Position → Type 0) (test : Bool) (p : Position) (o : Option Position) → test ≡ true → Q (Some p) → Q (or_else test p o)
 take_test Q true p o h a = a
 take_test Q false p o h a = cc
 
-pub not_none : (Q : Option Place → Type 0) (test : Bool) (o : Option Place) → test ≡ false → Q o → Q (cond test None o)
+pub not_none : (Q : Option Position → Type 0) (test : Bool) (o : Option Position) → test ≡ false → Q o → Q (cond test None o)
 not_none Q true o h a = cc
 not_none Q false o h a = a
 
 -- a token that is no bracket leads nowhere else
-stays : (Q : Option Place → Type 0) (s : Shape) (p : Place) → is_bracket s ≡ false → Q (Some p) → Q (any_token p s)
+stays : (Q : Option Position → Type 0) (s : Shape) (p : Position) → is_bracket s ≡ false → Q (Some p) → Q (any_token p s)
 stays Q s p h a =
     let plain = is_plain s h in
     skip_test Q (is_mark left_round s) (record p { brackets = Round ∷ p.brackets }) (or_else (is_mark left_square s) (record p { brackets = Square ∷ p.brackets }) (when (not (is_bracket s)) p)) plain.not_left_round
@@ -52,17 +52,17 @@ stays Q s p h a =
     (take_test Q (not (is_bracket s)) p None (ap not h) a))
 
 -- an opening bracket opens one
-opens : (Q : Option Place → Type 0) (bracket : Bracket) (mode : Mode) (level depth : ℕ) (brackets : List Bracket) → Q (Some (place mode level depth (bracket ∷ brackets))) → Q (any_token (place mode level depth brackets) (opening bracket))
-opens Q Round mode level depth brackets a = a
-opens Q Square mode level depth brackets a = a
+opens : (Q : Option Position → Type 0) (bracket : Bracket) (state : State) (level depth : ℕ) (brackets : List Bracket) → Q (Some (position state level depth (bracket ∷ brackets))) → Q (any_token (position state level depth brackets) (opening bracket))
+opens Q Round state level depth brackets a = a
+opens Q Square state level depth brackets a = a
 
 -- within a bracket its own mark closes it
-pub closes : (Q : Option Place → Type 0) (bracket : Bracket) (outer : List Bracket) (mode : Mode) (level depth : ℕ) → Q (Some (place mode level depth outer)) → Q (within bracket outer (place mode level depth (bracket ∷ outer)) (Punct (closing bracket)))
-closes Q Round outer mode level depth a = a
-closes Q Square outer mode level depth a = a
+pub closes : (Q : Option Position → Type 0) (bracket : Bracket) (outer : List Bracket) (state : State) (level depth : ℕ) → Q (Some (position state level depth outer)) → Q (within bracket outer (position state level depth (bracket ∷ outer)) (Punct (closing bracket)))
+closes Q Round outer state level depth a = a
+closes Q Square outer state level depth a = a
 
 -- any other token is passed over there
-within-other : (Q : Option Place → Type 0) (bracket : Bracket) (outer : List Bracket) (s : Shape) (p : Place) → is_mark right_round s ≡ false → is_mark right_square s ≡ false → Q (any_token p s) → Q (within bracket outer p s)
+within-other : (Q : Option Position → Type 0) (bracket : Bracket) (outer : List Bracket) (s : Shape) (p : Position) → is_mark right_round s ≡ false → is_mark right_square s ≡ false → Q (any_token p s) → Q (within bracket outer p s)
 within-other Q Round outer s p round square a = skip_test Q (is_mark right_round s) (record p { brackets = outer }) (any_token p s) round a
 within-other Q Square outer s p round square a = skip_test Q (is_mark right_square s) (record p { brackets = outer }) (any_token p s) square a
 
@@ -82,26 +82,26 @@ grouped : (acc : List Shape) (o c : Shape) (inside more : List Shape) → acc ++
 grouped acc o c inside more = sym (append_assoc ((acc ++ o ∷ []) ++ inside) (c ∷ []) more ∙ (append_assoc (acc ++ o ∷ []) inside (c ∷ more) ∙ append_assoc acc (o ∷ []) (inside ++ (c ∷ more))))
 
 -- within brackets a token leads on by the table there
-abbrev pub GoesWithin : (List Shape → Option Place → List Shape → Type 0) → Mode → Type 0
-GoesWithin P mode = (acc : List Shape) (level depth : ℕ) (bracket : Bracket) (outer : List Bracket) (s : Shape) (tokens : List Shape) → P (acc ++ s ∷ []) (within bracket outer (place mode level depth (bracket ∷ outer)) s) tokens → P acc (Some (place mode level depth (bracket ∷ outer))) (s ∷ tokens)
+abbrev pub GoesWithin : (List Shape → Option Position → List Shape → Type 0) → State → Type 0
+GoesWithin P state = (acc : List Shape) (level depth : ℕ) (bracket : Bracket) (outer : List Bracket) (s : Shape) (tokens : List Shape) → P (acc ++ s ∷ []) (within bracket outer (position state level depth (bracket ∷ outer)) s) tokens → P acc (Some (position state level depth (bracket ∷ outer))) (s ∷ tokens)
 
--- from the place p, outside brackets, a token that ends nothing leads on as any token
-abbrev pub GoesOutside : (List Shape → Option Place → List Shape → Type 0) → Mode → Mode → List Bracket → Type 0
-GoesOutside P mode from brackets = (acc : List Shape) (level depth : ℕ) (s : Shape) (tokens : List Shape) → is_mark comma s ≡ false → is_mark right_round s ≡ false → is_mark right_square s ≡ false → P (acc ++ s ∷ []) (any_token (place mode level depth []) s) tokens → P acc (Some (place from level depth brackets)) (s ∷ tokens)
+-- from the position p, outside brackets, a token that ends nothing leads on as any token
+abbrev pub GoesOutside : (List Shape → Option Position → List Shape → Type 0) → State → State → List Bracket → Type 0
+GoesOutside P state from brackets = (acc : List Shape) (level depth : ℕ) (s : Shape) (tokens : List Shape) → is_mark comma s ≡ false → is_mark right_round s ≡ false → is_mark right_square s ≡ false → P (acc ++ s ∷ []) (any_token (position state level depth []) s) tokens → P acc (Some (position from level depth brackets)) (s ∷ tokens)
 
-module _ (P : List Shape → Option Place → List Shape → Type 0) (mode : Mode) (goes : GoesWithin P mode) where
-  pub notes-balanced : (inside : Balanced) (acc : List Shape) (level depth : ℕ) (bracket : Bracket) (outer : List Bracket) (rest : List Shape) → P (acc ++ spell_balanced inside) (Some (place mode level depth (bracket ∷ outer))) rest → P acc (Some (place mode level depth (bracket ∷ outer))) (spell_balanced inside ++ rest)
-  notes-balanced no_tokens acc level depth bracket outer rest h = subst (λ u. P u (Some (place mode level depth (bracket ∷ outer))) rest) (append-nil acc) h
+module _ (P : List Shape → Option Position → List Shape → Type 0) (state : State) (goes : GoesWithin P state) where
+  pub notes-balanced : (inside : Balanced) (acc : List Shape) (level depth : ℕ) (bracket : Bracket) (outer : List Bracket) (rest : List Shape) → P (acc ++ spell_balanced inside) (Some (position state level depth (bracket ∷ outer))) rest → P acc (Some (position state level depth (bracket ∷ outer))) (spell_balanced inside ++ rest)
+  notes-balanced no_tokens acc level depth bracket outer rest h = subst (λ u. P u (Some (position state level depth (bracket ∷ outer))) rest) (append-nil acc) h
   notes-balanced (then_token s plain more) acc level depth bracket outer rest h =
       let p = is_plain s plain in
-      let here = place mode level depth (bracket ∷ outer) in
+      let here = position state level depth (bracket ∷ outer) in
       goes acc level depth bracket outer s (spell_balanced more ++ rest)
       (within-other (λ o. P (acc ++ s ∷ []) o (spell_balanced more ++ rest)) bracket outer s here p.not_right_round p.not_right_square
       (stays (λ o. P (acc ++ s ∷ []) o (spell_balanced more ++ rest)) s here plain
       (notes-balanced more (acc ++ s ∷ []) level depth bracket outer rest (subst (λ u. P u (Some here) rest) (sym (append_assoc acc (s ∷ []) (spell_balanced more))) h))))
   notes-balanced (then_group inner inside more) acc level depth bracket outer rest h =
-      let here = place mode level depth (bracket ∷ outer) in
-      let there = place mode level depth (inner ∷ (bracket ∷ outer)) in
+      let here = position state level depth (bracket ∷ outer) in
+      let there = position state level depth (inner ∷ (bracket ∷ outer)) in
       let acc1 = acc ++ opening inner ∷ [] in
       let acc2 = acc1 ++ spell_balanced inside in
       let acc3 = acc2 ++ Punct (closing inner) ∷ [] in
@@ -111,35 +111,35 @@ module _ (P : List Shape → Option Place → List Shape → Type 0) (mode : Mod
       notes-balanced more acc3 level depth bracket outer rest (subst (λ u. P u (Some here) rest) (grouped acc (opening inner) (Punct (closing inner)) (spell_balanced inside) (spell_balanced more)) h) in
       let close : P acc2 (Some there) behind =
       goes acc2 level depth inner (bracket ∷ outer) (Punct (closing inner)) (spell_balanced more ++ rest)
-      (closes (λ o. P acc3 o (spell_balanced more ++ rest)) inner (bracket ∷ outer) mode level depth last) in
+      (closes (λ o. P acc3 o (spell_balanced more ++ rest)) inner (bracket ∷ outer) state level depth last) in
       let within_it : P acc1 (Some there) (spell_balanced inside ++ behind) = notes-balanced inside acc1 level depth inner (bracket ∷ outer) behind close in
       let same : spell_balanced inside ++ behind ≡ whole = sym (append_assoc (spell_balanced inside) (Punct (closing inner) ∷ spell_balanced more) rest) in
       goes acc level depth bracket outer (opening inner) whole
       (within-other (λ o. P acc1 o whole) bracket outer (opening inner) here (not_right_round inner) (not_right_square inner)
-      (opens (λ o. P acc1 o whole) inner mode level depth (bracket ∷ outer) (subst (λ u. P acc1 (Some there) u) same within_it)))
+      (opens (λ o. P acc1 o whole) inner state level depth (bracket ∷ outer) (subst (λ u. P acc1 (Some there) u) same within_it)))
 
-  pub notes-part : (from : Mode) (brackets : List Bracket) → GoesOutside P mode from brackets → (part : Part) (acc : List Shape) (level depth : ℕ) (rest : List Shape) → P (acc ++ spell_part part) (Some (place mode level depth [])) rest → P acc (Some (place from level depth brackets)) (spell_part part ++ rest)
+  pub notes-part : (from : State) (brackets : List Bracket) → GoesOutside P state from brackets → (part : Part) (acc : List Shape) (level depth : ℕ) (rest : List Shape) → P (acc ++ spell_part part) (Some (position state level depth [])) rest → P acc (Some (position from level depth brackets)) (spell_part part ++ rest)
   notes-part from brackets begins (single s plain apart) acc level depth rest h =
       let q = is_plain s plain in
-      begins acc level depth s rest apart q.not_right_round q.not_right_square (stays (λ o. P (acc ++ s ∷ []) o rest) s (place mode level depth []) plain h)
+      begins acc level depth s rest apart q.not_right_round q.not_right_square (stays (λ o. P (acc ++ s ∷ []) o rest) s (position state level depth []) plain h)
   notes-part from brackets begins (group inner inside) acc level depth rest h =
-      let there = place mode level depth (inner ∷ []) in
+      let there = position state level depth (inner ∷ []) in
       let acc1 = acc ++ opening inner ∷ [] in
       let acc2 = acc1 ++ spell_balanced inside in
       let acc3 = acc2 ++ Punct (closing inner) ∷ [] in
       let whole = (spell_balanced inside ++ Punct (closing inner) ∷ []) ++ rest in
-      let last : P acc3 (Some (place mode level depth [])) rest =
-      subst (λ u. P u (Some (place mode level depth [])) rest) (grouped acc (opening inner) (Punct (closing inner)) (spell_balanced inside) [] ∙ append-nil acc3) h in
+      let last : P acc3 (Some (position state level depth [])) rest =
+      subst (λ u. P u (Some (position state level depth [])) rest) (grouped acc (opening inner) (Punct (closing inner)) (spell_balanced inside) [] ∙ append-nil acc3) h in
       let close : P acc2 (Some there) (Punct (closing inner) ∷ rest) =
-      goes acc2 level depth inner [] (Punct (closing inner)) rest (closes (λ o. P acc3 o rest) inner [] mode level depth last) in
+      goes acc2 level depth inner [] (Punct (closing inner)) rest (closes (λ o. P acc3 o rest) inner [] state level depth last) in
       let within_it : P acc1 (Some there) (spell_balanced inside ++ Punct (closing inner) ∷ rest) = notes-balanced inside acc1 level depth inner [] (Punct (closing inner) ∷ rest) close in
       let same : spell_balanced inside ++ Punct (closing inner) ∷ rest ≡ whole = sym (append_assoc (spell_balanced inside) (Punct (closing inner) ∷ []) rest) in
       begins acc level depth (opening inner) whole (not_comma inner) (not_right_round inner) (not_right_square inner)
-      (opens (λ o. P acc1 o whole) inner mode level depth [] (subst (λ u. P acc1 (Some there) u) same within_it))
+      (opens (λ o. P acc1 o whole) inner state level depth [] (subst (λ u. P acc1 (Some there) u) same within_it))
 
-  pub notes-parts : GoesOutside P mode mode [] → (parts : List Part) (acc : List Shape) (level depth : ℕ) (rest : List Shape) → P (acc ++ spell_parts parts) (Some (place mode level depth [])) rest → P acc (Some (place mode level depth [])) (spell_parts parts ++ rest)
-  notes-parts begins [] acc level depth rest h = subst (λ u. P u (Some (place mode level depth [])) rest) (append-nil acc) h
+  pub notes-parts : GoesOutside P state state [] → (parts : List Part) (acc : List Shape) (level depth : ℕ) (rest : List Shape) → P (acc ++ spell_parts parts) (Some (position state level depth [])) rest → P acc (Some (position state level depth [])) (spell_parts parts ++ rest)
+  notes-parts begins [] acc level depth rest h = subst (λ u. P u (Some (position state level depth [])) rest) (append-nil acc) h
   notes-parts begins (part ∷ more) acc level depth rest h =
-      subst (λ u. P acc (Some (place mode level depth [])) u) (sym (append_assoc (spell_part part) (spell_parts more) rest))
-      (notes-part mode [] begins part acc level depth (spell_parts more ++ rest)
-      (notes-parts begins more (acc ++ spell_part part) level depth rest (subst (λ u. P u (Some (place mode level depth [])) rest) (sym (append_assoc acc (spell_part part) (spell_parts more))) h)))
+      subst (λ u. P acc (Some (position state level depth [])) u) (sym (append_assoc (spell_part part) (spell_parts more) rest))
+      (notes-part state [] begins part acc level depth (spell_parts more ++ rest)
+      (notes-parts begins more (acc ++ spell_part part) level depth rest (subst (λ u. P u (Some (position state level depth [])) rest) (sym (append_assoc acc (spell_part part) (spell_parts more))) h)))

@@ -1,9 +1,9 @@
--- What is left of a file at each place, as trees. E holds of what may stand behind the statement under way.
+-- What is left of a file at each position, as trees. E holds of what may stand behind the statement under way.
 use Rattle.std.proofs.Common.{ℕ, zero, suc, List, [], ◌∷◌, ◌++◌, Option, Some, None}
 use Rattle.cnf_grammar.specs.declared.brackets.Bracket.{Bracket}
-use Rattle.cnf_grammar.specs.declared.mode.Mode.{Mode}
-use Rattle.cnf_grammar.specs.declared.mode.Mode.TheVariants.{Statement, ClauseWord, NameStart, NameRead, RoleStart, RoleRead, FormulaStart, LiteralStart, AtomStart, WordRead, TermStart, TermRead, FormulaClosed, SourceStart, Source, InfoStart, Info, InfoClosed, ClauseClosed, IncludeWord, FileStart, FileRead, SelectionStart, SelectionOpen, SelectedStart, SelectedRead, SelectionClosed, IncludeClosed}
-use Rattle.cnf_grammar.specs.declared.place.Place.{Place}
+use Rattle.cnf_grammar.specs.declared.state.State.{State}
+use Rattle.cnf_grammar.specs.declared.state.State.TheVariants.{Statement, ClauseWord, NameStart, NameRead, RoleStart, RoleRead, FormulaStart, LiteralStart, AtomStart, WordRead, TermStart, TermRead, FormulaClosed, SourceStart, Source, InfoStart, Info, InfoClosed, ClauseClosed, IncludeWord, FileStart, FileRead, SelectionStart, SelectionOpen, SelectedStart, SelectedRead, SelectionClosed, IncludeClosed}
+use Rattle.cnf_grammar.specs.declared.position.Position.{Position}
 use Rattle.cnf_grammar.specs.Shapes.{Shape, Lower, Punct, left_round, right_round, left_square, right_square, comma, dot}
 use Rattle.cnf_grammar.specs.Spelling.{closing, name_token, file_token, spell_term, spell_arguments, spell_terms, spell_atom, spell_literal, spell_literals, spell_formula, spell_balanced, spell_parts, spell_source, spell_items, spell_info, spell_optional_info, spell_annotations, spell_more_names, spell_names, spell_selection}
 
@@ -105,8 +105,8 @@ module _ (E : List Shape → Type 0) where
   abbrev pub FileStarts : List Shape → Type 0
   FileStarts = One file_token AfterFile
 
-  -- what is left at a place
-  abbrev pub rest_at : Mode → ℕ → ℕ → List Bracket → List Shape → Type 0
+  -- what is left at a position
+  abbrev pub rest_at : State → ℕ → ℕ → List Bracket → List Shape → Type 0
   rest_at Statement level depth brackets = E
   rest_at ClauseWord level depth brackets = Next left_round NameStarts
   rest_at NameStart level depth brackets = NameStarts
@@ -136,6 +136,6 @@ module _ (E : List Shape → Type 0) where
   rest_at SelectionClosed level depth brackets = IncludeEnds
   rest_at IncludeClosed level depth brackets = Closed
 
-  abbrev pub RestFrom : Option Place → List Shape → Type 0
+  abbrev pub RestFrom : Option Position → List Shape → Type 0
   RestFrom None tokens = ⊥
-  RestFrom (Some p) tokens = rest_at p.mode p.level p.depth p.brackets tokens
+  RestFrom (Some p) tokens = rest_at p.state p.level p.depth p.brackets tokens

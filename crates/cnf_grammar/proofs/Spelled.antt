@@ -1,7 +1,7 @@
--- What the table accepts from a place, trees at that place spell: one token more.
+-- What the table accepts from a position, trees at that position spell: one token more.
 use Rattle.std.proofs.Common.{◌≡◌, ℕ, suc, Bool, true, false, List, [], ◌∷◌, ◌++◌, Option, Some, None, refl, sym, ◌∙◌, ap, subst, append_assoc}
 use Rattle.cnf_grammar.specs.declared.brackets.Bracket.{Bracket}
-use Rattle.cnf_grammar.specs.declared.place.Place.{Place}
+use Rattle.cnf_grammar.specs.declared.position.Position.{Position}
 use Rattle.cnf_grammar.specs.Shapes.{Shape, Punct, left_round, right_round, left_square, right_square, comma, bar, tilde, is_mark, is_bracket}
 use Rattle.cnf_grammar.specs.Trees.{Word, Name, compound, arguments, then_term, predicate, positive, negative, bracketed, disjunction, then_token, then_group, group, annotations, selected}
 use Rattle.cnf_grammar.specs.Spelling.{word_token, name_token, opening, closing, spell_term, spell_terms, spell_literal, spell_literals, spell_formula, spell_balanced, spell_part, spell_parts, spell_source, spell_items, spell_optional_info, spell_names}
@@ -22,19 +22,19 @@ module _ (E : List Shape → Type 0) where
   none tokens h = h
 
   -- a wanted mark, and a wanted token of a kind
-  pub wanted : (byte : ℕ) (s : Shape) (q : Place) (tokens : List Shape) → RestFrom E (when (is_mark byte s) q) tokens → Next byte (RestFrom E (Some q)) (s ∷ tokens)
+  pub wanted : (byte : ℕ) (s : Shape) (q : Position) (tokens : List Shape) → RestFrom E (when (is_mark byte s) q) tokens → Next byte (RestFrom E (Some q)) (s ∷ tokens)
   wanted byte s q tokens h =
       let c = chosen-when (λ o. RestFrom E o tokens) (none tokens) (is_mark byte s) q h in
       at_token (Next byte (RestFrom E (Some q))) s (Punct byte) tokens (mark_is byte s c.0) (next c.1)
 
-  pub wanted_one : {X : Type 0} (token : X → Shape) (test : Shape → Bool) → ((s : Shape) → test s ≡ true → (x : X) × (s ≡ token x)) → (s : Shape) (q : Place) (tokens : List Shape) → RestFrom E (when (test s) q) tokens → One token (RestFrom E (Some q)) (s ∷ tokens)
+  pub wanted_one : {X : Type 0} (token : X → Shape) (test : Shape → Bool) → ((s : Shape) → test s ≡ true → (x : X) × (s ≡ token x)) → (s : Shape) (q : Position) (tokens : List Shape) → RestFrom E (when (test s) q) tokens → One token (RestFrom E (Some q)) (s ∷ tokens)
   wanted_one token test is s q tokens h =
       let c = chosen-when (λ o. RestFrom E o tokens) (none tokens) (test s) q h in
       let x = is s c.0 in
       at_token (One token (RestFrom E (Some q))) s (token x.0) tokens x.1 (one x.0 c.1)
 
   -- of two marks one comes
-  pub either : {A : Type 0} (test : Bool) (q : Place) (o : Option Place) (tokens : List Shape) → (test ≡ true → RestFrom E (Some q) tokens → A) → (test ≡ false → RestFrom E o tokens → A) → RestFrom E (or_else test q o) tokens → A
+  pub either : {A : Type 0} (test : Bool) (q : Position) (o : Option Position) (tokens : List Shape) → (test ≡ true → RestFrom E (Some q) tokens → A) → (test ≡ false → RestFrom E o tokens → A) → RestFrom E (or_else test q o) tokens → A
   either true q o tokens f g h = f refl h
   either false q o tokens f g h = g refl h
 

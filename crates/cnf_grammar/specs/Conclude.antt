@@ -53,16 +53,16 @@ has_word _ = false
 abbrev pub words_of : Formula → List Bool
 words_of formula = map has_word (literals_of formula)
 
--- whether the literal at this place, counted from 0, is there and has a word
+-- whether the literal at this position, counted from 0, is there and has a word
 abbrev pub has_word_at : List Bool → ℕ → Bool
-has_word_at [] place = false
+has_word_at [] position = false
 has_word_at (word ∷ words) zero = word
-has_word_at (word ∷ words) (suc place) = has_word_at words place
+has_word_at (word ∷ words) (suc position) = has_word_at words position
 
 -- whether the number, counted from 1, names a literal that has a word
 abbrev pub names_literal : List Bool → ℕ → Bool
 names_literal words zero = false
-names_literal words (suc place) = has_word_at words place
+names_literal words (suc position) = has_word_at words position
 
 -- whether the number may stand behind the last one: it is greater, and names a literal that has a word
 abbrev pub may_follow : List Bool → ℕ → ℕ → Bool

@@ -1,7 +1,7 @@
 -- The literals of a clause under way: what each token of its formula adds to them.
 use Rattle.std.specs.Prelude.{ℕ, zero, suc, pred, Bool, true, false, cond, ◌==◌, List, [], ◌∷◌, ◌++◌, map, length, codes, bytes_eq}
-use Rattle.cnf_grammar.specs.declared.mode.Mode.{Mode}
-use Rattle.cnf_grammar.specs.declared.mode.Mode.TheVariants.{FormulaStart, LiteralStart, AtomStart, WordRead, TermStart, TermRead}
+use Rattle.cnf_grammar.specs.declared.state.State.{State}
+use Rattle.cnf_grammar.specs.declared.state.State.TheVariants.{FormulaStart, LiteralStart, AtomStart, WordRead, TermStart, TermRead}
 use Rattle.cnf_grammar.specs.Shapes.{Shape, Lower, Upper, Quoted, Distinct, Dollar, Number, Punct, left_round, comma, tilde, is_mark}
 use Rattle.cnf_grammar.specs.Trees.{Formula}
 use Rattle.cnf_grammar.specs.Conclude.{literals_of}
@@ -15,7 +15,7 @@ pub record Draft : Type 0 where
   pub is_negative : Bool
   -- the atom under way in prefix order, where each symbol has the arguments that have begun; empty where none is under way
   pub atom : List Item
-  -- the places in the atom of the words whose arguments are open, the innermost first
+  -- the positions in the atom of the words whose arguments are open, the innermost first
   pub open_words : List ℕ
   -- the variables so far, in order of first occurrence
   pub variables : List (List ℕ)
@@ -48,12 +48,12 @@ push_variable text d = record d {
   variables = with_variable d.variables text;
 }
 
--- one more argument of the symbol at this place
+-- one more argument of the symbol at this position
 abbrev pub add_argument : ℕ → List Item → List Item
-add_argument place [] = []
+add_argument position [] = []
 add_argument zero (symbol_item symbol ∷ items) = symbol_item (record symbol { arity = suc symbol.arity }) ∷ items
 add_argument zero (variable_item index ∷ items) = variable_item index ∷ items
-add_argument (suc place) (item ∷ items) = item ∷ add_argument place items
+add_argument (suc position) (item ∷ items) = item ∷ add_argument position items
 
 -- the word at the end opens its arguments, and the first begins
 abbrev pub first_argument : Draft → Draft
@@ -65,7 +65,7 @@ first_argument d = record d {
 -- a further argument of the innermost of these words begins
 abbrev pub next_argument_of : List ℕ → Draft → Draft
 next_argument_of [] d = d
-next_argument_of (place ∷ outer) d = record d { atom = add_argument place d.atom }
+next_argument_of (position ∷ outer) d = record d { atom = add_argument position d.atom }
 
 -- a further argument begins
 abbrev pub next_argument : Draft → Draft
@@ -74,7 +74,7 @@ next_argument d = next_argument_of d.open_words d
 -- the innermost of these words closes its arguments
 abbrev pub close_words : List ℕ → Draft → Draft
 close_words [] d = d
-close_words (place ∷ outer) d = record d { open_words = outer }
+close_words (position ∷ outer) d = record d { open_words = outer }
 
 -- the innermost open word closes its arguments
 abbrev pub close_arguments : Draft → Draft
@@ -127,7 +127,7 @@ abbrev pub end_word : ℕ → Shape → Draft → Draft
 end_word depth s d = cond (is_mark left_round s) (first_argument d) (end_term depth s d)
 
 -- what a token adds
-abbrev pub collect_at : Mode → ℕ → Shape → Draft → Draft
+abbrev pub collect_at : State → ℕ → Shape → Draft → Draft
 collect_at FormulaStart depth s d = begin_literal s d
 collect_at LiteralStart depth s d = begin_literal s d
 collect_at AtomStart depth s d = begin_literal s d

@@ -1,9 +1,9 @@
 -- What the statements of a file say, gathered token by token along the table.
 use Rattle.std.specs.Prelude.{ℕ, cond, ◌||◌, List, [], ◌∷◌, ◌++◌, Option, Some, None, map, filter, filter_map}
 use Rattle.cnf_grammar.specs.declared.brackets.Bracket.{Bracket}
-use Rattle.cnf_grammar.specs.declared.mode.Mode.{Mode}
-use Rattle.cnf_grammar.specs.declared.mode.Mode.TheVariants.{NameStart, RoleStart, FormulaStart, LiteralStart, AtomStart, WordRead, TermStart, TermRead, Info, ClauseClosed, FileStart, FileRead, SelectionOpen, SelectedStart, IncludeClosed}
-use Rattle.cnf_grammar.specs.declared.place.Place.{Place}
+use Rattle.cnf_grammar.specs.declared.state.State.{State}
+use Rattle.cnf_grammar.specs.declared.state.State.TheVariants.{NameStart, RoleStart, FormulaStart, LiteralStart, AtomStart, WordRead, TermStart, TermRead, Info, ClauseClosed, FileStart, FileRead, SelectionOpen, SelectedStart, IncludeClosed}
+use Rattle.cnf_grammar.specs.declared.position.Position.{Position}
 use Rattle.cnf_grammar.specs.Shapes.{Shape, Lower, Quoted, Number, comma, right_square, is_mark, is_name}
 use Rattle.cnf_grammar.specs.Table.{step}
 use Rattle.cnf_grammar.specs.Conclude.{gives_conclusions, number_of_token}
@@ -75,11 +75,11 @@ abbrev pub finish_include : Gathered → Gathered
 finish_include g = gathered (g.statements ++ read_include g.file g.names ∷ [])
 
 -- a token of a formula
-abbrev pub gather_formula : Mode → ℕ → Shape → Gathered → Gathered
-gather_formula mode depth s g = record g { formula = collect_at mode depth s g.formula }
+abbrev pub gather_formula : State → ℕ → Shape → Gathered → Gathered
+gather_formula state depth s g = record g { formula = collect_at state depth s g.formula }
 
--- what a token adds, by the mode that it is read in
-abbrev pub gather_at : Mode → Place → Shape → Gathered → Gathered
+-- what a token adds, by the state that it is read in
+abbrev pub gather_at : State → Position → Shape → Gathered → Gathered
 gather_at NameStart p s g = record g { name = token_name s }
 gather_at RoleStart p s g = record g { role = token_text s }
 gather_at FormulaStart p s g = gather_formula FormulaStart p.depth s g
@@ -97,12 +97,12 @@ gather_at SelectedStart p s g = gather_name s g
 gather_at IncludeClosed p s g = finish_include g
 gather_at _ p s g = g
 
--- what a token adds, read at a place
-abbrev pub gather : Place → Shape → Gathered → Gathered
-gather p s g = gather_at p.mode p s g
+-- what a token adds, read at a position
+abbrev pub gather : Position → Shape → Gathered → Gathered
+gather p s g = gather_at p.state p s g
 
--- what tokens add, read from a place on
-abbrev pub gather_from : Option Place → Gathered → List Shape → Gathered
+-- what tokens add, read from a position on
+abbrev pub gather_from : Option Position → Gathered → List Shape → Gathered
 gather_from None g tokens = g
 gather_from (Some p) g [] = g
 gather_from (Some p) g (s ∷ tokens) = gather_from (step p s) (gather p s g) tokens

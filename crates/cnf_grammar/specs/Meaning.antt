@@ -97,7 +97,7 @@ each_once (text ∷ more) = text ∷ filter (λ other. not (bytes_eq text other)
 abbrev pub variables_of : Formula → List (List ℕ)
 variables_of formula = each_once (flat_map variables_of_literal (literals_of formula))
 
--- the number of a variable: its place among those of the clause, from 0
+-- the number of a variable: its position among those of the clause, from 0
 abbrev pub index_of : List (List ℕ) → List ℕ → ℕ
 index_of [] text = 0
 index_of (other ∷ more) text = cond (bytes_eq other text) 0 (suc (index_of more text))

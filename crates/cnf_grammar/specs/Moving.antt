@@ -1,8 +1,8 @@
--- What moving a place by the table means.
+-- What moving a position by the table means.
 use Rattle.std.specs.Prelude.{◌≡◌, Bool, true, false, Option, Some, None}
-use Rattle.cnf_grammar.specs.declared.place.Place.{Place}
+use Rattle.cnf_grammar.specs.declared.position.Position.{Position}
 
--- moved to the place where there is one, and unmoved where there is none
-abbrev pub Moves : Option Place → Bool → Place → Place → Type 0
+-- moved to the position where there is one, and unmoved where there is none
+abbrev pub Moves : Option Position → Bool → Position → Position → Type 0
 Moves None moved old new = (moved ≡ false) × (new ≡ old)
 Moves (Some p) moved old new = (moved ≡ true) × (new ≡ p)

@@ -6,10 +6,10 @@ ghost use Rattle.cnf_grammar.specs.Moving.{Moves};
 ghost use Rattle.cnf_grammar.specs.Seen.{seen};
 ghost use Rattle.cnf_grammar.specs.Table.{any_token, within, source_start, in_source, in_info, step_at};
 
-use crate::{Bracket, Lexeme, Mode, Place};
+use crate::{Bracket, Lexeme, Position, State};
 use mg_word::NoMemory;
 
-impl Place {
+impl Position {
     /// Where a source must begin.
     pub(crate) fn source_start(&mut self, token: &Lexeme) -> Result<bool, NoMemory>
         ensures ok { IfOk result (λ moved. Moves (source_start self.old (seen token.now)) moved self.old self.new) }
@@ -24,7 +24,7 @@ impl Place {
         } else {
             self.brackets.clear();
         }
-        self.mode = Mode::Source;
+        self.state = State::Source;
         Ok(true)
     }
 
@@ -37,11 +37,11 @@ impl Place {
             return self.within(bracket, token);
         }
         if token.is_mark(b',') {
-            self.mode = Mode::InfoStart;
+            self.state = State::InfoStart;
             return Ok(true);
         }
         if token.is_mark(b')') {
-            self.mode = Mode::ClauseClosed;
+            self.state = State::ClauseClosed;
             return Ok(true);
         }
         self.any_token(token)
@@ -49,10 +49,10 @@ impl Place {
 
     /// Where an info must begin.
     pub(crate) fn info_start(&mut self, token: &Lexeme) -> bool
-        ensures { Moves (step_at Mode.InfoStart self.old (seen token.now)) result self.old self.new }
+        ensures { Moves (step_at State.InfoStart self.old (seen token.now)) result self.old self.new }
     {
         if token.is_mark(b'[') {
-            self.mode = Mode::Info;
+            self.state = State::Info;
             self.brackets.clear();
             return true;
         }
@@ -68,7 +68,7 @@ impl Place {
             return self.within(bracket, token);
         }
         if token.is_mark(b']') {
-            self.mode = Mode::InfoClosed;
+            self.state = State::InfoClosed;
             return Ok(true);
         }
         self.any_token(token)

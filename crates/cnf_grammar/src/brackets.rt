@@ -61,7 +61,7 @@ impl Brackets {
         Ok(())
     }
 
-    /// Has this one bracket open, in place of all others.
+    /// Has this one bracket open, in position of all others.
     pub fn restart(&mut self, bracket: Bracket) -> Result<(), NoMemory>
         ensures ok { OnOk result (self.new ≡ bracket ∷ []) }
         ensures err { OnErr result (self.new ≡ self.old) }

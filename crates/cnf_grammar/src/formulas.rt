@@ -5,15 +5,15 @@ ghost use Rattle.cnf_grammar.specs.Moving.{Moves};
 ghost use Rattle.cnf_grammar.specs.Seen.{seen};
 ghost use Rattle.cnf_grammar.specs.Table.{atom_start, literal_start, formula_start, after_formula, after_literal, after_term, after_word, term_start, step_at};
 
-use crate::{Lexeme, Mode, Place};
+use crate::{Lexeme, Position, State};
 
-impl Place {
+impl Position {
     /// Behind the role: a formula begins with no bracket open.
     pub(crate) fn role_read(&mut self, token: &Lexeme) -> bool
-        ensures { Moves (step_at Mode.RoleRead self.old (seen token.now)) result self.old self.new }
+        ensures { Moves (step_at State.RoleRead self.old (seen token.now)) result self.old self.new }
     {
         if token.is_mark(b',') {
-            self.mode = Mode::FormulaStart;
+            self.state = State::FormulaStart;
             self.level = 0;
             return true;
         }
@@ -37,7 +37,7 @@ impl Place {
         ensures { Moves (literal_start self.old (seen token.now)) result self.old self.new }
     {
         if token.is_mark(b'~') {
-            self.mode = Mode::AtomStart;
+            self.state = State::AtomStart;
             return true;
         }
         self.atom_start(token)
@@ -48,12 +48,12 @@ impl Place {
         ensures { Moves (atom_start self.old (seen token.now)) result self.old self.new }
     {
         if token.is_word() {
-            self.mode = Mode::WordRead;
+            self.state = State::WordRead;
             self.depth = 0;
             return true;
         }
         if token.is_defined(b"$true") || token.is_defined(b"$false") {
-            self.mode = Mode::TermRead;
+            self.state = State::TermRead;
             self.depth = 0;
             return true;
         }
@@ -66,7 +66,7 @@ impl Place {
         ensures { Moves (after_word self.old (seen token.now)) result self.old self.new }
     {
         if token.is_mark(b'(') {
-            self.mode = Mode::TermStart;
+            self.state = State::TermStart;
             self.depth += 1;
             return true;
         }
@@ -78,10 +78,10 @@ impl Place {
         ensures { Moves (term_start self.old (seen token.now)) result self.old self.new }
     {
         if token.is_simple_term() {
-            self.mode = Mode::TermRead;
+            self.state = State::TermRead;
             return true;
         }
-        self.go_if(token.is_word(), Mode::WordRead)
+        self.go_if(token.is_word(), State::WordRead)
     }
 
     /// Behind a term or an atom.
@@ -92,11 +92,11 @@ impl Place {
             return self.after_literal(token);
         }
         if token.is_mark(b',') {
-            self.mode = Mode::TermStart;
+            self.state = State::TermStart;
             return true;
         }
         if token.is_mark(b')') {
-            self.mode = Mode::TermRead;
+            self.state = State::TermRead;
             self.depth -= 1;
             return true;
         }
@@ -108,7 +108,7 @@ impl Place {
         ensures { Moves (after_literal self.old (seen token.now)) result self.old self.new }
     {
         if token.is_mark(b'|') {
-            self.mode = Mode::LiteralStart;
+            self.state = State::LiteralStart;
             return true;
         }
         self.after_formula(token)
@@ -120,13 +120,13 @@ impl Place {
     {
         if self.level == 0 {
             if token.is_mark(b',') {
-                self.mode = Mode::SourceStart;
+                self.state = State::SourceStart;
                 return true;
             }
-            return self.go_if(token.is_mark(b')'), Mode::ClauseClosed);
+            return self.go_if(token.is_mark(b')'), State::ClauseClosed);
         }
         if token.is_mark(b')') {
-            self.mode = Mode::FormulaClosed;
+            self.state = State::FormulaClosed;
             self.level -= 1;
             return true;
         }

@@ -13,7 +13,7 @@ use tptp_lexer::TokenKind;
 
 /// Where a reader stands in an item of an info.
 #[derive(Clone, Copy, Debug, PartialEq, Eq)]
-pub enum ItemPlace {
+pub enum ItemState {
     /// Nothing was read.
     Start,
     /// Behind `conclude`.
@@ -34,8 +34,8 @@ pub enum ItemPlace {
     Other,
 }
 
-impl ItemPlace {
-    /// Where a token of the item leads. There is no place where no end of the item would be right.
+impl ItemState {
+    /// Where a token of the item leads. There is no position where no end of the item would be right.
     /// `words` tells which literals of the clause have a word for their atom.
     pub fn step(
         self,
@@ -43,74 +43,74 @@ impl ItemPlace {
         kind: TokenKind,
         text: &[u8],
         plain: bool,
-    ) -> Option<ItemPlace>
+    ) -> Option<ItemState>
         requires { length words.now < 2 ^ 32 }
         ensures { result ≡ item_step words.now self (shape_of kind text.now plain) }
     {
         let token = Lexeme { kind, text, plain };
         match self {
-            ItemPlace::Start => Some(word_or_other(&token)),
-            ItemPlace::WordRead => Some(open_or_other(&token)),
-            ItemPlace::Open => place_if(token.is_mark(b'['), ItemPlace::ListOpen),
-            ItemPlace::ListOpen => list_open(words, &token),
-            ItemPlace::NumberRead(last) => number_read(words, last, &token),
-            ItemPlace::NumberStart(last) => number_start(words, last, &token),
-            ItemPlace::ListClosed => place_if(token.is_mark(b')'), ItemPlace::Closed),
-            ItemPlace::Closed => None,
-            ItemPlace::Other => Some(ItemPlace::Other),
+            ItemState::Start => Some(word_or_other(&token)),
+            ItemState::WordRead => Some(open_or_other(&token)),
+            ItemState::Open => place_if(token.is_mark(b'['), ItemState::ListOpen),
+            ItemState::ListOpen => list_open(words, &token),
+            ItemState::NumberRead(last) => number_read(words, last, &token),
+            ItemState::NumberStart(last) => number_start(words, last, &token),
+            ItemState::ListClosed => place_if(token.is_mark(b')'), ItemState::Closed),
+            ItemState::Closed => None,
+            ItemState::Other => Some(ItemState::Other),
         }
     }
 }
 
-fn place_if(test: bool, place: ItemPlace) -> Option<ItemPlace>
-    ensures { result ≡ at_item test place None }
+fn place_if(test: bool, position: ItemState) -> Option<ItemState>
+    ensures { result ≡ at_item test position None }
 {
-    if test { Some(place) } else { None }
+    if test { Some(position) } else { None }
 }
 
-fn word_or_other(token: &Lexeme) -> ItemPlace
+fn word_or_other(token: &Lexeme) -> ItemState
     ensures { Some result ≡ item_step [] item_start (seen token.now) }
 {
     if token.is_keyword(b"conclude") {
-        ItemPlace::WordRead
+        ItemState::WordRead
     } else {
-        ItemPlace::Other
+        ItemState::Other
     }
 }
 
-fn open_or_other(token: &Lexeme) -> ItemPlace
+fn open_or_other(token: &Lexeme) -> ItemState
     ensures { Some result ≡ item_step [] word_read (seen token.now) }
 {
     if token.is_mark(b'(') {
-        ItemPlace::Open
+        ItemState::Open
     } else {
-        ItemPlace::Other
+        ItemState::Other
     }
 }
 
-fn list_open(words: &[bool], token: &Lexeme) -> Option<ItemPlace>
+fn list_open(words: &[bool], token: &Lexeme) -> Option<ItemState>
     requires { length words.now < 2 ^ 32 }
     ensures { result ≡ item_step words.now list_open (seen token.now) }
 {
     if token.is_mark(b']') {
-        return Some(ItemPlace::ListClosed);
+        return Some(ItemState::ListClosed);
     }
     number_start(words, 0, token)
 }
 
-fn number_read(words: &[bool], last: u32, token: &Lexeme) -> Option<ItemPlace>
+fn number_read(words: &[bool], last: u32, token: &Lexeme) -> Option<ItemState>
     ensures { result ≡ item_step words.now (number_read last) (seen token.now) }
 {
     if token.is_mark(b']') {
-        return Some(ItemPlace::ListClosed);
+        return Some(ItemState::ListClosed);
     }
     place_if(
         token.is_mark(b',') && names_above(words, last),
-        ItemPlace::NumberStart(last),
+        ItemState::NumberStart(last),
     )
 }
 
-fn number_start(words: &[bool], last: u32, token: &Lexeme) -> Option<ItemPlace>
+fn number_start(words: &[bool], last: u32, token: &Lexeme) -> Option<ItemState>
     requires { length words.now < 2 ^ 32 }
     ensures { result ≡ number_at words.now last (seen token.now) }
 {
@@ -120,8 +120,8 @@ fn number_start(words: &[bool], last: u32, token: &Lexeme) -> Option<ItemPlace>
     }
 }
 
-// The place behind a number that may follow the last one.
-fn number_of(words: &[bool], last: u32, text: &[u8], plain: bool) -> Option<ItemPlace>
+// The position behind a number that may follow the last one.
+fn number_of(words: &[bool], last: u32, text: &[u8], plain: bool) -> Option<ItemState>
     requires { length words.now < 2 ^ 32 }
     ensures { result ≡ number_at words.now last (Number text.now plain) }
 {
@@ -131,7 +131,7 @@ fn number_of(words: &[bool], last: u32, text: &[u8], plain: bool) -> Option<Item
     match number_up_to(text, words.len() as u32) {
         Some(number) => place_if(
             may_follow(words, last, number),
-            ItemPlace::NumberRead(number),
+            ItemState::NumberRead(number),
         ),
         None => None,
     }
@@ -141,8 +141,8 @@ fn number_of(words: &[bool], last: u32, text: &[u8], plain: bool) -> Option<Item
 fn names_above(words: &[bool], last: u32) -> bool
     ensures { result ≡ names_above words.now last }
 {
-    for (place, word) in words.iter().enumerate() {
-        if last as usize <= place && *word {
+    for (position, word) in words.iter().enumerate() {
+        if last as usize <= position && *word {
             return true;
         }
     }
@@ -155,10 +155,10 @@ fn may_follow(words: &[bool], last: u32, number: u32) -> bool
     last < number && has_word_at(words, number as usize - 1)
 }
 
-fn has_word_at(words: &[bool], place: usize) -> bool
-    ensures { result ≡ has_word_at words.now place }
+fn has_word_at(words: &[bool], position: usize) -> bool
+    ensures { result ≡ has_word_at words.now position }
 {
-    place < words.len() && words[place]
+    position < words.len() && words[position]
 }
 
 fn digit(byte: u8) -> u32

@@ -4,7 +4,7 @@ ghost use Rattle.std.specs.Prelude.{◌≡◌, ◌+◌, ◌<◌, ◌^◌, ℕ, B
 ghost use Rattle.std.specs.List.{list_all};
 ghost use Rattle.mg_word.specs.Facts.{is_name_byte};
 ghost use Rattle.tptp_lexer.specs.Forms.{Item, bytes_of, meant_by, AreItems};
-ghost use Rattle.cnf_grammar.specs.declared.place.Place.{Place};
+ghost use Rattle.cnf_grammar.specs.declared.position.Position.{Position};
 ghost use Rattle.cnf_grammar.specs.Shapes.{Shape};
 ghost use Rattle.cnf_grammar.specs.Trees.{Name, FileName, Formula, Annotations, Selection, Statement, clause, include};
 ghost use Rattle.cnf_grammar.specs.Spelling.{spell_statement, spell, IsFile, IsFront};
@@ -17,22 +17,22 @@ ghost use Rattle.cnf_grammar.specs.Gathering.{gathered, gather_from};
 ghost use Rattle.cnf_grammar.specs.Counters.{in_formula, open_brackets, opened_by, closed_by, IsTidy};
 ghost use Rattle.cnf_grammar.specs.Laws.{LeadsToEnd, StopsAt, IsFirstFault};
 
-/// The tokens that a tree spells lead from the start to a place where a file may end.
+/// The tokens that a tree spells lead from the start to a position where a file may end.
 pub fn each_file_is_accepted()
     ensures { (file : List Statement) → LeadsToEnd start (spell file) }
 {}
 
-/// Tokens that lead from the start to a place where a file may end, some tree spells.
+/// Tokens that lead from the start to a position where a file may end, some tree spells.
 pub fn only_files_are_accepted()
     ensures { (tokens : List Shape) → LeadsToEnd start tokens → IsFile tokens }
 {}
 
-/// From each place some tokens lead to one where a file may end.
-pub fn each_place_can_be_completed()
-    ensures { (p : Place) → (tokens : List Shape) × LeadsToEnd p tokens }
+/// From each position some tokens lead to one where a file may end.
+pub fn each_position_can_be_completed()
+    ensures { (p : Position) → (tokens : List Shape) × LeadsToEnd p tokens }
 {}
 
-/// Tokens lead from the start to some place exactly where they are the front of some file.
+/// Tokens lead from the start to some position exactly where they are the front of some file.
 pub fn fronts_lead_on()
     ensures { (tokens : List Shape) → IsSome (run start tokens) ↔ IsFront tokens }
 {}
@@ -43,20 +43,20 @@ pub fn stops_at_first_fault()
     ensures { (tokens : List Shape) (s : Shape) → StopsAt tokens s ↔ IsFirstFault tokens s }
 {}
 
-/// Where tokens lead to a place, what the table says of that place is what the grammar says of the
+/// Where tokens lead to a position, what the table says of that position is what the grammar says of the
 /// tokens: where the next token leads, whether it can come, and whether the file may end here.
-pub fn place_tells_what_may_come()
-    ensures next { (tokens : List Shape) (p : Place) (s : Shape) → run start tokens ≡ Some p → run start (tokens ++ s ∷ []) ≡ step p s }
-    ensures stop { (tokens : List Shape) (p : Place) (s : Shape) → run start tokens ≡ Some p → (step p s ≡ None) ↔ (IsFront (tokens ++ s ∷ []) → ⊥) }
-    ensures end { (tokens : List Shape) (p : Place) → run start tokens ≡ Some p → (is_end p ≡ true) ↔ IsFile tokens }
+pub fn position_tells_what_may_come()
+    ensures next { (tokens : List Shape) (p : Position) (s : Shape) → run start tokens ≡ Some p → run start (tokens ++ s ∷ []) ≡ step p s }
+    ensures stop { (tokens : List Shape) (p : Position) (s : Shape) → run start tokens ≡ Some p → (step p s ≡ None) ↔ (IsFront (tokens ++ s ∷ []) → ⊥) }
+    ensures end { (tokens : List Shape) (p : Position) → run start tokens ≡ Some p → (is_end p ≡ true) ↔ IsFile tokens }
 {}
 
-/// Where tokens lead to a place, its two counters together are the round brackets that are open in
+/// Where tokens lead to a position, its two counters together are the round brackets that are open in
 /// the formula: a bracket of the formula opens or closes one, no other token does, and outside of
 /// formulas both are 0, as is `depth` outside of atoms.
 pub fn counters_count_open_brackets()
-    ensures outside { (tokens : List Shape) (p : Place) → run start tokens ≡ Some p → IsTidy p }
-    ensures inside { (tokens : List Shape) (p q : Place) (s : Shape) → run start tokens ≡ Some p → step p s ≡ Some q → in_formula p.mode ≡ true → in_formula q.mode ≡ true → open_brackets q + closed_by s ≡ open_brackets p + opened_by s }
+    ensures outside { (tokens : List Shape) (p : Position) → run start tokens ≡ Some p → IsTidy p }
+    ensures inside { (tokens : List Shape) (p q : Position) (s : Shape) → run start tokens ≡ Some p → step p s ≡ Some q → in_formula p.state ≡ true → in_formula q.state ≡ true → open_brackets q + closed_by s ≡ open_brackets p + opened_by s }
 {}
 
 /// No two trees spell the same tokens, so tokens have at most one meaning.

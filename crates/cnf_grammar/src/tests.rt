@@ -3,7 +3,7 @@
 
 ghost use Rattle.std.specs.Prelude.{◌+◌, ◌<◌, ◌^◌};
 
-use crate::{Bracket, Brackets, ItemPlace, Mode, Place};
+use crate::{Bracket, Brackets, ItemState, Position, State};
 use mg_word::NoMemory;
 use std::alloc::Global;
 use std::test::Fail;
@@ -23,48 +23,53 @@ fn token(text: &[u8]) -> (TokenKind, bool) {
     }
 }
 
-/// Moves the place by the token; where memory is refused, by the same token again.
-fn move_on(place: &mut Place, kind: TokenKind, text: &[u8], plain: bool) -> Result<bool, NoMemory>
-    requires level { place.old.level + 1 < 2 ^ 32 }
-    requires depth { place.old.depth + 1 < 2 ^ 32 }
+/// Moves the position by the token; where memory is refused, by the same token again.
+fn move_on(
+    position: &mut Position,
+    kind: TokenKind,
+    text: &[u8],
+    plain: bool,
+) -> Result<bool, NoMemory>
+    requires level { position.old.level + 1 < 2 ^ 32 }
+    requires depth { position.old.depth + 1 < 2 ^ 32 }
 {
-    match place.advance(kind, text, plain) {
+    match position.advance(kind, text, plain) {
         Ok(moved) => Ok(moved),
-        Err(NoMemory) => place.advance(kind, text, plain),
+        Err(NoMemory) => position.advance(kind, text, plain),
     }
 }
 
-/// The mode that the tokens between the spaces lead to, if they lead on.
-fn follow(alloc: Global, spaced: &[u8]) -> Result<Option<Mode>, NoMemory> {
-    let mut place = Place::start(alloc);
+/// The state that the tokens between the spaces lead to, if they lead on.
+fn follow(alloc: Global, spaced: &[u8]) -> Result<Option<State>, NoMemory> {
+    let mut position = Position::start(alloc);
     for text in spaced.split(|byte| *byte == b' ') {
-        if place.level > 99 || place.depth > 99 {
+        if position.level > 99 || position.depth > 99 {
             return Ok(None);
         }
         let (kind, plain) = token(text);
-        if !move_on(&mut place, kind, text, plain)? {
+        if !move_on(&mut position, kind, text, plain)? {
             return Ok(None);
         }
     }
-    Ok(Some(place.mode))
+    Ok(Some(position.state))
 }
 
 #[test]
 fn follows_token_lists(rt: HostRuntime) -> Result<(), Fail> {
-    let rows: [(&[u8], Option<Mode>); 14] = [
-        (b"cnf ( a , axiom , p | ~ q ) .", Some(Mode::Statement)),
+    let rows: [(&[u8], Option<State>); 14] = [
+        (b"cnf ( a , axiom , p | ~ q ) .", Some(State::Statement)),
         (
             b"cnf ( 7 , axiom , ( p ( X , f ( 'bc' ) , \"d\" , 0 ) ) ) .",
-            Some(Mode::Statement),
+            Some(State::Statement),
         ),
         (
             b"cnf ( a , axiom , $true , s ( [ x , ( ) ] ) , [ i , [ ] ] ) .",
-            Some(Mode::Statement),
+            Some(State::Statement),
         ),
-        (b"include ( 'a.ax' , [ a , 7 ] ) .", Some(Mode::Statement)),
-        (b"include ( a ) . cnf", Some(Mode::ClauseWord)),
-        (b"cnf ( a , axiom , p ( X", Some(Mode::TermRead)),
-        (b"cnf ( a , axiom , p , s ( [", Some(Mode::Source)),
+        (b"include ( 'a.ax' , [ a , 7 ] ) .", Some(State::Statement)),
+        (b"include ( a ) . cnf", Some(State::ClauseWord)),
+        (b"cnf ( a , axiom , p ( X", Some(State::TermRead)),
+        (b"cnf ( a , axiom , p , s ( [", Some(State::Source)),
         (b"cnf ( a , axiom , ~ ~", None),
         (b"cnf ( a , axiom , p ( )", None),
         (b"cnf ( a , axiom , p , s ( ]", None),
@@ -73,8 +78,8 @@ fn follows_token_lists(rt: HostRuntime) -> Result<(), Fail> {
         (b"include ( ''", None),
         (b"fof", None),
     ];
-    for (row, (tokens, mode)) in rows.into_iter().enumerate() {
-        assert_eq!(rt; follow(rt.alloc(), tokens)?, mode, "at row {row}");
+    for (row, (tokens, state)) in rows.into_iter().enumerate() {
+        assert_eq!(rt; follow(rt.alloc(), tokens)?, state, "at row {row}");
     }
     Ok(())
 }
@@ -103,31 +108,31 @@ fn keeps_brackets(rt: HostRuntime) -> Result<(), Fail> {
 }
 
 /// Where the tokens between the spaces lead in an item of a clause `p | $false | q`.
-fn follow_item(spaced: &[u8]) -> Option<ItemPlace> {
+fn follow_item(spaced: &[u8]) -> Option<ItemState> {
     let words = [true, false, true];
-    let mut place = ItemPlace::Start;
+    let mut position = ItemState::Start;
     for text in spaced.split(|byte| *byte == b' ') {
         let (kind, plain) = token(text);
-        place = place.step(&words, kind, text, plain)?;
+        position = position.step(&words, kind, text, plain)?;
     }
-    Some(place)
+    Some(position)
 }
 
 #[test]
 fn follows_items(rt: HostRuntime) {
-    let rows: [(&[u8], Option<ItemPlace>); 10] = [
-        (b"conclude ( [ 1 , 3 ] )", Some(ItemPlace::Closed)),
-        (b"conclude ( [ ] )", Some(ItemPlace::Closed)),
-        (b"conclude ( [ 1 ,", Some(ItemPlace::NumberStart(1))),
-        (b"conclude [ 9 ]", Some(ItemPlace::Other)),
-        (b"status ( thm )", Some(ItemPlace::Other)),
+    let rows: [(&[u8], Option<ItemState>); 10] = [
+        (b"conclude ( [ 1 , 3 ] )", Some(ItemState::Closed)),
+        (b"conclude ( [ ] )", Some(ItemState::Closed)),
+        (b"conclude ( [ 1 ,", Some(ItemState::NumberStart(1))),
+        (b"conclude [ 9 ]", Some(ItemState::Other)),
+        (b"status ( thm )", Some(ItemState::Other)),
         (b"conclude ( [ 2", None),
         (b"conclude ( [ 3 ,", None),
         (b"conclude ( [ 1 , 1", None),
         (b"conclude ( [ 4294967297", None),
         (b"conclude ( [ 1 ] ) more", None),
     ];
-    for (row, (tokens, place)) in rows.into_iter().enumerate() {
-        assert_eq!(rt; follow_item(tokens), place, "at row {row}");
+    for (row, (tokens, position)) in rows.into_iter().enumerate() {
+        assert_eq!(rt; follow_item(tokens), position, "at row {row}");
     }
 }

@@ -8,7 +8,7 @@ use Rattle.cnf_reader.specs.declared.fault.ReadKind.{ReadKind}
 use Rattle.cnf_reader.specs.declared.fault.ReadKind.TheVariants.{IncludeAbsent, TooLong, ProblemAbsent, Files}
 use Rattle.cnf_reader.specs.declared.kept.Kept.{Kept}
 use Rattle.cnf_reader.specs.declared.pending.Asked.{Asked}
-use Rattle.cnf_reader.specs.declared.files.Step.TheVariants.{Include, Fault}
+use Rattle.cnf_reader.specs.declared.part.Part.TheVariants.{Include, Fault}
 use Rattle.cnf_grammar.specs.Table.{start}
 use Rattle.cnf_reader.specs.Statements.{fresh}
 use Rattle.cnf_reader.specs.Reading.{World, AreTold, NeverFails, reading_of, read_opened, source_of, include_in, and_then, most_levels, with_file, nothing_kept, Counts, HasRisen, StandsBy, StandsFirst, IsFault, read_tokens}
@@ -91,7 +91,7 @@ begun_reaches told root name now file begun =
           let few : now.includes ≡ 0 = ap (λ (k : Kept). k.includes) begun.now_is in
           let wide : SameBelow (0 + 2) (with_reads first.0 0 begun.first begun.second) other = λ k less. below k (omega (arith, few)) in
           ap (λ o. read_opened other root name o) (begun.gives other (at_reads told first.0 other 0 begun.first begun.second wide))
-          ∙ ap (λ left. read_tokens (λ asked kept. include_in other root most_levels (source_of begun.found begun.bytes (None ∷ []) nothing_kept) asked kept) (source_of begun.found begun.bytes (None ∷ []) nothing_kept) (fresh start) (with_file begun.found begun.bytes nothing_kept) left.tokens left.fault) (sym (all_left begun.bytes))
+          ∙ ap (λ left. read_tokens (λ asked kept. include_in other root most_levels (source_of begun.found begun.bytes (None ∷ []) nothing_kept) asked kept) (source_of begun.found begun.bytes (None ∷ []) nothing_kept) fresh (with_file begun.found begun.bytes nothing_kept) left.tokens left.fault) (sym (all_left begun.bytes))
           ∙ rw (begun.file_is, begun.now_is) (whole_result _);
     }
   where

@@ -6,10 +6,9 @@ use Rattle.std.specs.List.{list_all}
 use Rattle.mg_word.specs.Facts.{is_name_byte}
 use Rattle.mg_word.specs.declared.clause.Name.{Name}
 use Rattle.mg_word.proofs.NameTexts.{number_named}
-use Rattle.cnf_grammar.specs.declared.mode.Mode.{Mode}
-use Rattle.cnf_grammar.specs.declared.mode.Mode.TheVariants.{Info, FileStart, SelectionStart, SelectionOpen, SelectedStart}
-use Rattle.cnf_grammar.specs.declared.item.ItemPlace.{ItemPlace}
-use Rattle.cnf_grammar.specs.declared.place.Place.{Place}
+use Rattle.cnf_grammar.specs.declared.state.State.{State}
+use Rattle.cnf_grammar.specs.declared.state.State.TheVariants.{Info, FileStart, SelectionStart, SelectionOpen, SelectedStart}
+use Rattle.cnf_grammar.specs.declared.item.ItemState.{ItemState}
 use Rattle.cnf_grammar.specs.Shapes.{Shape, Lower, Upper, Quoted, Distinct, Dollar, Number, NotEqual, Punct, is_name}
 use Rattle.cnf_grammar.specs.Items.{item_step}
 use Rattle.cnf_grammar.specs.Soundness.{is_clean}
@@ -67,27 +66,27 @@ named_more : (most : ℕ) (asked : Asked) (s : Shape) (test : Bool) → is_name 
 named_more most asked s true is clean asks = record { file = asks.file; names = names_more most (name_of s) asked.names (name_clean s clean is) asks.names }
 named_more most asked s false is clean asks = asks_more most asked asks
 
-info_asks : (outside : Bool) (p : Pending) (item : Option ItemPlace) → (if outside then end_item p else take_item p item).asked ≡ p.asked
+info_asks : (outside : Bool) (p : Pending) (item : Option ItemState) → (if outside then end_item p else take_item p item).asked ≡ p.asked
 info_asks true p item = refl
 info_asks false p None = refl
 info_asks false p (Some item) = refl
 
 -- nothing is asked for at the start of a statement
-pub fresh_asks : (place : Place) → AsksByName 0 (fresh place).asked
-fresh_asks place = record { file = refl; names = tt }
+pub fresh_asks : AsksByName 0 fresh.asked
+fresh_asks = record { file = refl; names = tt }
 
 -- one token more
-pub asks_at : (mode : Mode) (depth : ℕ) (outside : Bool) (p : Pending) (s : Shape) (line column most : ℕ) → is_clean s ≡ true → AsksByName most p.asked → AsksByName (suc most) (add_at mode depth outside p s line column).asked
+pub asks_at : (state : State) (depth : ℕ) (outside : Bool) (p : Pending) (s : Shape) (line column most : ℕ) → is_clean s ≡ true → AsksByName most p.asked → AsksByName (suc most) (add_at state depth outside p s line column).asked
 asks_at FileStart depth outside p s line column most clean asks = record { file = file_clean s clean; names = tt }
 asks_at SelectionStart depth outside p s line column most clean asks = record { file = asks.file; names = (refl, omega arith) }
 asks_at SelectionOpen depth outside p s line column most clean asks = named_more most p.asked s (is_name s) refl clean asks
 asks_at SelectedStart depth outside p s line column most clean asks = named_more most p.asked s (is_name s) refl clean asks
 asks_at Info depth outside p s line column most clean asks =
     subst (AsksByName (suc most)) (sym (info_asks outside p (item_step p.words p.item s))) (asks_more most p.asked asks)
-asks_at mode depth outside p s line column most clean asks = asks_more most p.asked asks
+asks_at state depth outside p s line column most clean asks = asks_more most p.asked asks
 
 -- one clean token more was taken
 pub asks_on : (is_full : Bool) (selections : List (Option (List Name))) (p q : Pending) (s : Shape) (line column most : ℕ) → take is_full selections p s line column ≡ Ok q → is_clean s ≡ true → AsksByName most p.asked → AsksByName (suc most) q.asked
 asks_on is_full selections p q s line column most takes clean asks =
     let k = was_taken is_full selections p s line column q takes in
-    subst (λ (r : Pending). AsksByName (suc most) r.asked) k.is (asks_at p.place.mode p.place.depth (is_outside_items p.place s) p s line column most clean asks)
+    subst (λ (r : Pending). AsksByName (suc most) r.asked) k.is (asks_at p.position.state p.position.depth (is_outside_items p.position s) p s line column most clean asks)

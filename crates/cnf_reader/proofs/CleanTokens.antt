@@ -17,15 +17,12 @@ use Rattle.cnf_grammar.specs.Soundness.{is_clean}
 use Rattle.cnf_reader.specs.Reading.{shape_in}
 
 lower_name : (b : ℕ) → is_lower b ≡ true → is_name_byte b ≡ true
-unfolding is_lower
 lower_name b e = grind (arith, nat_tests)
 
 word_name : (b : ℕ) → is_word b ≡ true → is_name_byte b ≡ true
-unfolding is_word is_lower is_upper is_digit
 word_name b e = grind (arith, nat_tests)
 
 printable_name : (b : ℕ) → is_printable b ≡ true → is_name_byte b ≡ true
-unfolding is_printable
 printable_name b e = grind (arith, nat_tests)
 
 escaped_name : (quote b : ℕ) → is_name_byte quote ≡ true → (b == quote || b == 92) ≡ true → is_name_byte b ≡ true
@@ -48,7 +45,6 @@ quoted_named : (quote : ℕ) (items : List Item) (text : List ℕ) → is_name_b
 quoted_named quote items text q form is = ap (list_all is_name_byte) is ∙ rw q (items_named quote items q form)
 
 digits_same : (bs : List ℕ) → list_all is_digit bs ≡ list_all is_number_digit bs
-unfolding is_digit
 digits_same [] = refl
 digits_same (b ∷ bs) = ap (λ t. is_number_digit b && t) (digits_same bs)
 
@@ -56,7 +52,7 @@ more_than_one : (n : ℕ) → (suc (suc n) == 1) ≡ false
 more_than_one n = grind (arith, nat_tests)
 
 plain_number : (text : List ℕ) → 0 < length text → is_plain text ≡ true → is_plain_number text ≡ true
-unfolding is_plain is_digit
+unfolding is_plain
 plain_number [] some e = absurd (omega (arith, some))
 plain_number (b ∷ []) some e = let all = both_true (list_all is_digit (b ∷ [])) _ e in (both_true (is_digit b) true all.0).0
 plain_number (b ∷ c ∷ bs) some e =

@@ -29,10 +29,10 @@ unfolding passed
 passed_all bytes at spot past_end so_far = sym (ap (λ l. passed spot l) (drop_none bytes at past_end)) ∙ so_far ∙ sym (ap (λ l. passed first_spot l) (take_whole bytes))
 
 -- the place behind one more byte
-pub next_place : (bytes : List ℕ) (at line column next_line next_column byte : ℕ) → at < length bytes → byte ≡ get_or bytes at byte → passed (record { offset = at; line = line; column = column }) (drop at bytes) ≡ passed first_spot bytes
+pub next_spot : (bytes : List ℕ) (at line column next_line next_column byte : ℕ) → at < length bytes → byte ≡ get_or bytes at byte → passed (record { offset = at; line = line; column = column }) (drop at bytes) ≡ passed first_spot bytes
     → next_line ≡ (if byte == 10 then line + 1 else line) → next_column ≡ (if byte == 10 then 1 else column + 1)
     → passed (record { offset = at + 1; line = next_line; column = next_column }) (drop (at + 1) bytes) ≡ passed first_spot bytes
-next_place bytes at line column next_line next_column byte within is so_far lines columns =
+next_spot bytes at line column next_line next_column byte within is so_far lines columns =
     passed_byte bytes at byte (record { offset = at; line = line; column = column }) (record { offset = at + 1; line = next_line; column = next_column }) within is so_far (rw (lines, columns) refl)
 
 -- an element that is there does not depend on the default

@@ -118,7 +118,7 @@ module _ (told : Option Table) (root : Option (List ℕ)) (kept : Kept) (file : 
       fits = let count = ap (λ (k : Kept). k.bytes) after_is in omega (arith, count, opening.fits, limit_is);
       gives = λ world finds selections.
           follows (Opened text bytes) opening world finds selections
-          ∙ ap (λ left. read_tokens (λ further more. include_in world root (15 - suc depth) (source_of (string_bytes text) bytes.items (asked.names ∷ selections) (with_include kept)) further more) (source_of (string_bytes text) bytes.items (asked.names ∷ selections) (with_include kept)) (fresh start) (with_file (string_bytes text) bytes.items (with_include kept)) left.tokens left.fault) (sym (all_left bytes.items))
+          ∙ ap (λ left. read_tokens (λ further more. include_in world root (15 - suc depth) (source_of (string_bytes text) bytes.items (asked.names ∷ selections) (with_include kept)) further more) (source_of (string_bytes text) bytes.items (asked.names ∷ selections) (with_include kept)) fresh (with_file (string_bytes text) bytes.items (with_include kept)) left.tokens left.fault) (sym (all_left bytes.items))
           ∙ rw (inner_is, after_is) refl;
     }
 

@@ -3,11 +3,11 @@ use Rattle.std.proofs.Common.{◌≡◌, ℕ, zero, suc, Bool, true, false, not,
 use Rattle.std.proofs.lemmas.List.{map-append}
 use Rattle.mg_word.specs.declared.clause.Name.{Name}
 use Rattle.cnf_grammar.specs.declared.brackets.Bracket.{Bracket}
-use Rattle.cnf_grammar.specs.declared.mode.Mode.{Mode}
-use Rattle.cnf_grammar.specs.declared.mode.Mode.TheVariants.{Statement, ClauseWord, NameStart, NameRead, RoleStart, RoleRead, FormulaStart, LiteralStart, AtomStart, WordRead, TermStart, TermRead, FormulaClosed, SourceStart, Source, InfoStart, Info, InfoClosed, ClauseClosed, IncludeWord, FileStart, FileRead, SelectionStart, SelectionOpen, SelectedStart, SelectedRead, SelectionClosed, IncludeClosed}
-use Rattle.cnf_grammar.specs.declared.place.Place.{Place}
-use Rattle.cnf_grammar.specs.declared.item.ItemPlace.{ItemPlace}
-use Rattle.cnf_grammar.specs.declared.item.ItemPlace.TheVariants.{Start as item_start}
+use Rattle.cnf_grammar.specs.declared.state.State.{State}
+use Rattle.cnf_grammar.specs.declared.state.State.TheVariants.{Statement, ClauseWord, NameStart, NameRead, RoleStart, RoleRead, FormulaStart, LiteralStart, AtomStart, WordRead, TermStart, TermRead, FormulaClosed, SourceStart, Source, InfoStart, Info, InfoClosed, ClauseClosed, IncludeWord, FileStart, FileRead, SelectionStart, SelectionOpen, SelectedStart, SelectedRead, SelectionClosed, IncludeClosed}
+use Rattle.cnf_grammar.specs.declared.position.Position.{Position}
+use Rattle.cnf_grammar.specs.declared.item.ItemState.{ItemState}
+use Rattle.cnf_grammar.specs.declared.item.ItemState.TheVariants.{Start as item_start}
 use Rattle.cnf_grammar.specs.Shapes.{Shape, Lower, Upper, Quoted, Distinct, Dollar, Number, NotEqual, Punct, left_round, right_round, left_square, right_square, comma, dot, bar, tilde, is_mark, is_bracket, is_name, is_word, is_defined, is_file_name, is_simple_term, is_keyword, is_lower}
 use Rattle.cnf_grammar.specs.Spelling.{closing}
 use Rattle.cnf_grammar.specs.Table.{or_else, when, to, step_at, atom_start, literal_start, after_formula, after_term, any_token, within}
@@ -20,16 +20,16 @@ use Rattle.cnf_reader.specs.Statements.{file_text, add_name}
 use Rattle.cnf_reader.specs.Meanings.{name_seen, names_seen}
 use Rattle.cnf_reader.proofs.InItems.{InItem, conclusions}
 
-abbrev pub place : Mode → ℕ → ℕ → List Bracket → Place
-place mode level depth brackets = record { mode = mode; level = level; depth = depth; brackets = brackets }
+abbrev pub position : State → ℕ → ℕ → List Bracket → Position
+position state level depth brackets = record { state = state; level = level; depth = depth; brackets = brackets }
 
 -- where the opening bracket of a list of names must come
-abbrev pub is_selection_start : Mode → Bool
+abbrev pub is_selection_start : State → Bool
 is_selection_start SelectionStart = true
 is_selection_start _ = false
 
 -- behind the token that follows a file name
-abbrev pub is_late : Mode → Bool
+abbrev pub is_late : State → Bool
 is_late SelectionStart = true
 is_late SelectionOpen = true
 is_late SelectedStart = true
@@ -39,7 +39,7 @@ is_late IncludeClosed = true
 is_late _ = false
 
 -- the next place is late exactly where this one is, and not where a list of names must open; a file name and the dot are apart
-abbrev pub forbidden : Mode → Mode → Bool
+abbrev pub forbidden : State → State → Bool
 forbidden FileRead m = false
 forbidden IncludeClosed m = false
 forbidden SelectionStart m = is_selection_start m || not (is_late m)
@@ -49,58 +49,58 @@ forbidden SelectedRead m = is_selection_start m || not (is_late m)
 forbidden SelectionClosed m = is_selection_start m || not (is_late m)
 forbidden _ m = is_late m
 
-abbrev Avoids : (Mode → Bool) → Option Place → Type 0
+abbrev Avoids : (State → Bool) → Option Position → Type 0
 Avoids T None = Unit {0}
-Avoids T (Some p) = T p.mode ≡ false
+Avoids T (Some p) = T p.state ≡ false
 
-avoid : (T : Mode → Bool) (test : Bool) (p : Place) (o : Option Place) → T p.mode ≡ false → Avoids T o → Avoids T (or_else test p o)
+avoid : (T : State → Bool) (test : Bool) (p : Position) (o : Option Position) → T p.state ≡ false → Avoids T o → Avoids T (or_else test p o)
 avoid T true p o h k = h
 avoid T false p o h k = k
 
-avoid_or_none : (T : Mode → Bool) (test : Bool) (o : Option Place) → Avoids T o → Avoids T (cond test None o)
+avoid_or_none : (T : State → Bool) (test : Bool) (o : Option Position) → Avoids T o → Avoids T (cond test None o)
 avoid_or_none T true o h = tt
 avoid_or_none T false o h = h
 
-avoid_any : (p : Place) (s : Shape) → is_late p.mode ≡ false → Avoids is_late (any_token p s)
+avoid_any : (p : Position) (s : Shape) → is_late p.state ≡ false → Avoids is_late (any_token p s)
 avoid_any p s h = avoid is_late (is_mark left_round s) _ _ h (avoid is_late (is_mark left_square s) _ _ h (avoid is_late (not (is_bracket s)) p None h tt))
 
-avoid_within : (bracket : Bracket) (outer : List Bracket) (p : Place) (s : Shape) → is_late p.mode ≡ false → Avoids is_late (within bracket outer p s)
+avoid_within : (bracket : Bracket) (outer : List Bracket) (p : Position) (s : Shape) → is_late p.state ≡ false → Avoids is_late (within bracket outer p s)
 avoid_within bracket outer p s h = avoid is_late (is_mark (closing bracket) s) _ _ h (avoid_any p s h)
 
-avoid_atom : (p : Place) (s : Shape) → Avoids is_late (atom_start p s)
+avoid_atom : (p : Position) (s : Shape) → Avoids is_late (atom_start p s)
 avoid_atom p s = avoid is_late (is_word s) _ _ refl (avoid is_late (is_defined (codes "$true") s || is_defined (codes "$false") s) _ None refl tt)
 
-avoid_literal : (p : Place) (s : Shape) → Avoids is_late (literal_start p s)
+avoid_literal : (p : Position) (s : Shape) → Avoids is_late (literal_start p s)
 avoid_literal p s = avoid is_late (is_mark tilde s) _ _ refl (avoid_atom p s)
 
-avoid_formula : (level : ℕ) (p : Place) (s : Shape) → Avoids is_late (after_formula level p s)
+avoid_formula : (level : ℕ) (p : Position) (s : Shape) → Avoids is_late (after_formula level p s)
 avoid_formula zero p s = avoid is_late (is_mark comma s) _ _ refl (avoid is_late (is_mark right_round s) _ None refl tt)
 avoid_formula (suc level) p s = avoid is_late (is_mark right_round s) _ None refl tt
 
-avoid_term : (depth : ℕ) (p : Place) (s : Shape) → Avoids is_late (after_term depth p s)
+avoid_term : (depth : ℕ) (p : Position) (s : Shape) → Avoids is_late (after_term depth p s)
 avoid_term zero p s = avoid is_late (is_mark bar s) _ _ refl (avoid_formula p.level (to FormulaClosed p) s)
 avoid_term (suc depth) p s = avoid is_late (is_mark comma s) _ _ refl (avoid is_late (is_mark right_round s) _ None refl tt)
 
-avoids : (mode : Mode) (level depth : ℕ) (brackets : List Bracket) (s : Shape) → Avoids (forbidden mode) (step_at mode (place mode level depth brackets) s)
+avoids : (state : State) (level depth : ℕ) (brackets : List Bracket) (s : Shape) → Avoids (forbidden state) (step_at state (position state level depth brackets) s)
 avoids Statement level depth brackets s = avoid is_late (is_keyword (codes "cnf") s) _ _ refl (avoid is_late (is_keyword (codes "include") s) _ None refl tt)
 avoids ClauseWord level depth brackets s = avoid is_late (is_mark left_round s) _ None refl tt
 avoids NameStart level depth brackets s = avoid is_late (is_name s) _ None refl tt
 avoids NameRead level depth brackets s = avoid is_late (is_mark comma s) _ None refl tt
 avoids RoleStart level depth brackets s = avoid is_late (is_lower s) _ None refl tt
 avoids RoleRead level depth brackets s = avoid is_late (is_mark comma s) _ None refl tt
-avoids FormulaStart level depth brackets s = avoid is_late (is_mark left_round s) _ _ refl (avoid_literal (place FormulaStart level depth brackets) s)
-avoids LiteralStart level depth brackets s = avoid_literal (place LiteralStart level depth brackets) s
-avoids AtomStart level depth brackets s = avoid_atom (place AtomStart level depth brackets) s
-avoids WordRead level depth brackets s = avoid is_late (is_mark left_round s) _ _ refl (avoid_term depth (place TermRead level depth brackets) s)
+avoids FormulaStart level depth brackets s = avoid is_late (is_mark left_round s) _ _ refl (avoid_literal (position FormulaStart level depth brackets) s)
+avoids LiteralStart level depth brackets s = avoid_literal (position LiteralStart level depth brackets) s
+avoids AtomStart level depth brackets s = avoid_atom (position AtomStart level depth brackets) s
+avoids WordRead level depth brackets s = avoid is_late (is_mark left_round s) _ _ refl (avoid_term depth (position TermRead level depth brackets) s)
 avoids TermStart level depth brackets s = avoid is_late (is_simple_term s) _ _ refl (avoid is_late (is_word s) _ None refl tt)
-avoids TermRead level depth brackets s = avoid_term depth (place TermRead level depth brackets) s
-avoids FormulaClosed level depth brackets s = avoid_formula level (place FormulaClosed level depth brackets) s
-avoids SourceStart level depth brackets s = avoid_or_none is_late (is_mark comma s) _ (avoid_any (place Source level depth []) s refl)
-avoids Source level depth [] s = avoid is_late (is_mark comma s) _ _ refl (avoid is_late (is_mark right_round s) _ _ refl (avoid_any (place Source level depth []) s refl))
-avoids Source level depth (bracket ∷ outer) s = avoid_within bracket outer (place Source level depth (bracket ∷ outer)) s refl
+avoids TermRead level depth brackets s = avoid_term depth (position TermRead level depth brackets) s
+avoids FormulaClosed level depth brackets s = avoid_formula level (position FormulaClosed level depth brackets) s
+avoids SourceStart level depth brackets s = avoid_or_none is_late (is_mark comma s) _ (avoid_any (position Source level depth []) s refl)
+avoids Source level depth [] s = avoid is_late (is_mark comma s) _ _ refl (avoid is_late (is_mark right_round s) _ _ refl (avoid_any (position Source level depth []) s refl))
+avoids Source level depth (bracket ∷ outer) s = avoid_within bracket outer (position Source level depth (bracket ∷ outer)) s refl
 avoids InfoStart level depth brackets s = avoid is_late (is_mark left_square s) _ None refl tt
-avoids Info level depth [] s = avoid is_late (is_mark right_square s) _ _ refl (avoid_any (place Info level depth []) s refl)
-avoids Info level depth (bracket ∷ outer) s = avoid_within bracket outer (place Info level depth (bracket ∷ outer)) s refl
+avoids Info level depth [] s = avoid is_late (is_mark right_square s) _ _ refl (avoid_any (position Info level depth []) s refl)
+avoids Info level depth (bracket ∷ outer) s = avoid_within bracket outer (position Info level depth (bracket ∷ outer)) s refl
 avoids InfoClosed level depth brackets s = avoid is_late (is_mark right_round s) _ None refl tt
 avoids ClauseClosed level depth brackets s = avoid is_late (is_mark dot s) _ None refl tt
 avoids IncludeWord level depth brackets s = avoid is_late (is_mark left_round s) _ None refl tt
@@ -113,15 +113,15 @@ avoids SelectedRead level depth brackets s = avoid (forbidden SelectedRead) (is_
 avoids SelectionClosed level depth brackets s = avoid (forbidden SelectionClosed) (is_mark right_round s) _ None refl tt
 avoids IncludeClosed level depth brackets s = avoid (forbidden IncludeClosed) (is_mark dot s) _ None refl tt
 
-pub goes_there : (mode : Mode) (level depth : ℕ) (brackets : List Bracket) (s : Shape) (next : Place) → step_at mode (place mode level depth brackets) s ≡ Some next → forbidden mode next.mode ≡ false
-goes_there mode level depth brackets s next goes = subst (Avoids (forbidden mode)) goes (avoids mode level depth brackets s)
+pub goes_there : (state : State) (level depth : ℕ) (brackets : List Bracket) (s : Shape) (next : Position) → step_at state (position state level depth brackets) s ≡ Some next → forbidden state next.state ≡ false
+goes_there state level depth brackets s next goes = subst (Avoids (forbidden state)) goes (avoids state level depth brackets s)
 
 pub true_false : (b : Bool) → b ≡ true → b ≡ false → ⊥
 true_false b h k = cc
 
-early_no_start : (mode : Mode) → is_late mode ≡ false → is_selection_start mode ≡ false
+early_no_start : (state : State) → is_late state ≡ false → is_selection_start state ≡ false
 early_no_start SelectionStart h = cc
-early_no_start mode h = refl
+early_no_start state h = refl
 
 late_parts : (a b : Bool) → (a || not b) ≡ false → (a ≡ false) × (b ≡ true)
 late_parts true b h = cc
@@ -129,41 +129,41 @@ late_parts false true h = (refl, refl)
 late_parts false false h = cc
 
 -- the names that were read; where the opening bracket of their list must come, the grammar has the list already
-pub record NamesFollow (mode : Mode) (read : Option (List Name)) (names : Option (List Named)) : Type 0 where
-  pub opening : is_selection_start mode ≡ true → names ≡ Some []
-  pub same : is_selection_start mode ≡ false → names_seen read ≡ names
-  pub early : is_late mode ≡ false → names ≡ None
+pub record NamesFollow (state : State) (read : Option (List Name)) (names : Option (List Named)) : Type 0 where
+  pub opening : is_selection_start state ≡ true → names ≡ Some []
+  pub same : is_selection_start state ≡ false → names_seen read ≡ names
+  pub early : is_late state ≡ false → names ≡ None
 
-pub names_early : (mode : Mode) (read : Option (List Name)) (names : Option (List Named)) → is_late mode ≡ false → names_seen read ≡ names → names ≡ None → NamesFollow mode read names
-names_early mode read names h same none = record { opening = λ e. absurd (true_false (is_selection_start mode) e (early_no_start mode h)); same = λ e. same; early = λ e. none }
+pub names_early : (state : State) (read : Option (List Name)) (names : Option (List Named)) → is_late state ≡ false → names_seen read ≡ names → names ≡ None → NamesFollow state read names
+names_early state read names h same none = record { opening = λ e. absurd (true_false (is_selection_start state) e (early_no_start state h)); same = λ e. same; early = λ e. none }
 
-pub names_late : (mode : Mode) (read : Option (List Name)) (names : Option (List Named)) → (is_selection_start mode || not (is_late mode)) ≡ false → names_seen read ≡ names → NamesFollow mode read names
-names_late mode read names h same =
-    let parts = late_parts (is_selection_start mode) (is_late mode) h in
-    record { opening = λ e. absurd (true_false (is_selection_start mode) e parts.0); same = λ e. same; early = λ e. absurd (true_false (is_late mode) parts.1 e) }
+pub names_late : (state : State) (read : Option (List Name)) (names : Option (List Named)) → (is_selection_start state || not (is_late state)) ≡ false → names_seen read ≡ names → NamesFollow state read names
+names_late state read names h same =
+    let parts = late_parts (is_selection_start state) (is_late state) h in
+    record { opening = λ e. absurd (true_false (is_selection_start state) e parts.0); same = λ e. same; early = λ e. absurd (true_false (is_late state) parts.1 e) }
 
 -- no item is under way
-abbrev pub NoItem : ItemPlace → List ℕ → List Shape → Type 0
+abbrev pub NoItem : ItemState → List ℕ → List Shape → Type 0
 NoItem item chosen tokens = (item ≡ item_start) × (tokens ≡ []) × (chosen ≡ [])
 
 -- in an info the item is followed, and elsewhere none is under way
-abbrev pub ItemFollows : Mode → List Bracket → ItemPlace → List ℕ → List Shape → Type 0
-ItemFollows mode brackets item chosen tokens = ((mode ≡ Info) × InItem brackets item chosen tokens) ⊎ NoItem item chosen tokens
+abbrev pub ItemFollows : State → List Bracket → ItemState → List ℕ → List Shape → Type 0
+ItemFollows state brackets item chosen tokens = ((state ≡ Info) × InItem brackets item chosen tokens) ⊎ NoItem item chosen tokens
 
 -- in an info either way
-pub in_item : (mode : Mode) (brackets : List Bracket) (item : ItemPlace) (chosen : List ℕ) (tokens : List Shape) → ItemFollows mode brackets item chosen tokens → InItem brackets item chosen tokens
-in_item mode brackets item chosen tokens (inl h) = h.1
-in_item mode brackets item chosen tokens (inr h) = subst (λ x. InItem brackets x chosen tokens) (sym h.0) (h.1, h.2)
+pub in_item : (state : State) (brackets : List Bracket) (item : ItemState) (chosen : List ℕ) (tokens : List Shape) → ItemFollows state brackets item chosen tokens → InItem brackets item chosen tokens
+in_item state brackets item chosen tokens (inl h) = h.1
+in_item state brackets item chosen tokens (inr h) = subst (λ x. InItem brackets x chosen tokens) (sym h.0) (h.1, h.2)
 
 -- the statement under way holds what was gathered
-pub record Follows (before : List ReadStatement) (mode : Mode) (brackets : List Bracket) (p : Pending) (g : Gathered) : Type 0 where
+pub record Follows (before : List ReadStatement) (state : State) (brackets : List Bracket) (p : Pending) (g : Gathered) : Type 0 where
   pub statements : g.statements ≡ before
   pub name : name_seen p.name ≡ g.name
   pub draft : p.draft ≡ g.formula
   pub file : p.asked.file ≡ g.file
-  pub names : NamesFollow mode p.asked.names g.names
+  pub names : NamesFollow state p.asked.names g.names
   pub conclude : p.conclude ≡ conclusions g.items
-  pub item : ItemFollows mode brackets p.item p.chosen g.item
+  pub item : ItemFollows state brackets p.item p.chosen g.item
 
 -- the same name, file and names by the two ways to see a token
 pub name_same : (s : Shape) → name_seen (name_of s) ≡ token_name s
@@ -176,7 +176,7 @@ name_same (Dollar text) = refl
 name_same NotEqual = refl
 name_same (Punct byte) = refl
 
-pub file_same : (s : Shape) (p next : Place) → when (is_file_name s) p ≡ Some next → file_text s ≡ token_text s
+pub file_same : (s : Shape) (p next : Position) → when (is_file_name s) p ≡ Some next → file_text s ≡ token_text s
 file_same (Lower text) p next h = refl
 file_same (Quoted text) p next h = refl
 file_same (Number text plain) p next h = absurd cc
@@ -193,6 +193,6 @@ names_same s (Some read) names h =
     ∙ (ap (λ n. Some (map name_seen read ++ n ∷ [])) (name_same s) ∙ ap (λ u. gathering.with_name u (token_name s)) h)
 
 -- behind an item, no item is under way
-pub outside_info : (mode : Mode) (brackets : List Bracket) (item : ItemPlace) (chosen : List ℕ) (tokens : List Shape) → (mode ≡ Info → ⊥) → ItemFollows mode brackets item chosen tokens → NoItem item chosen tokens
-outside_info mode brackets item chosen tokens h (inl k) = absurd (h k.0)
-outside_info mode brackets item chosen tokens h (inr k) = k
+pub outside_info : (state : State) (brackets : List Bracket) (item : ItemState) (chosen : List ℕ) (tokens : List Shape) → (state ≡ Info → ⊥) → ItemFollows state brackets item chosen tokens → NoItem item chosen tokens
+outside_info state brackets item chosen tokens h (inl k) = absurd (h k.0)
+outside_info state brackets item chosen tokens h (inr k) = k

@@ -5,50 +5,50 @@ use Rattle.std.proofs.lemmas.List.Elements.{filter-append, filter_map-append}
 use Rattle.std.specs.Str.Parse.{digits_value}
 use Rattle.cnf_grammar.specs.declared.brackets.Bracket.{Bracket}
 use Rattle.cnf_grammar.specs.declared.brackets.Bracket.TheVariants.{Round, Square}
-use Rattle.cnf_grammar.specs.declared.mode.Mode.TheVariants.{Info}
-use Rattle.cnf_grammar.specs.declared.place.Place.{Place}
-use Rattle.cnf_grammar.specs.declared.item.ItemPlace.{ItemPlace}
+use Rattle.cnf_grammar.specs.declared.state.State.TheVariants.{Info}
+use Rattle.cnf_grammar.specs.declared.position.Position.{Position}
+use Rattle.cnf_grammar.specs.declared.item.ItemState.{ItemState}
 use Rattle.cnf_grammar.specs.Shapes.{Shape, Lower, Upper, Quoted, Distinct, Dollar, Number, NotEqual, Punct, left_round, right_round, left_square, right_square, comma, is_keyword, is_mark}
 use Rattle.cnf_grammar.specs.Table.{in_info}
 use Rattle.cnf_grammar.specs.Conclude.{gives_conclusions, number_of_token, may_follow}
-use Rattle.cnf_grammar.specs.declared.item.ItemPlace.TheVariants.{Start as item_start, WordRead as word_read, Open as item_open, ListOpen as list_open, NumberRead as number_read, NumberStart as number_start, ListClosed as list_closed, Closed as item_closed, Other as other_item}
+use Rattle.cnf_grammar.specs.declared.item.ItemState.TheVariants.{Start as item_start, WordRead as word_read, Open as item_open, ListOpen as list_open, NumberRead as number_read, NumberStart as number_start, ListClosed as list_closed, Closed as item_closed, Other as other_item}
 use Rattle.cnf_grammar.specs.Items.{names_above, at_item, number_at, item_step}
 use Rattle.mg_word.proofs.Members.{both_true}
 use Rattle.cnf_grammar.proofs.Accepting.{mark_is, keyword_is}
 use Rattle.cnf_reader.specs.Statements.{with_number, with_item}
 
 -- the place in an info with these brackets open
-abbrev pub info_place : ℕ → ℕ → List Bracket → Place
-info_place level depth brackets = record { mode = Info; level = level; depth = depth; brackets = brackets }
+abbrev pub info_position : ℕ → ℕ → List Bracket → Position
+info_position level depth brackets = record { state = Info; level = level; depth = depth; brackets = brackets }
 
 -- where brackets opened, stayed and closed
-opened_by : (level depth : ℕ) (brackets : List Bracket) (bracket : Bracket) (s : Shape) (next : Place) → Some (info_place level depth (bracket ∷ brackets)) ≡ Some next → suc (length brackets) ≤ length next.brackets
-opened_by level depth brackets bracket s next e = let same : info_place level depth (bracket ∷ brackets) ≡ next = cc in subst (λ p. suc (length brackets) ≤ length p.brackets) same (omega arith)
+opened_by : (level depth : ℕ) (brackets : List Bracket) (bracket : Bracket) (s : Shape) (next : Position) → Some (info_position level depth (bracket ∷ brackets)) ≡ Some next → suc (length brackets) ≤ length next.brackets
+opened_by level depth brackets bracket s next e = let same : info_position level depth (bracket ∷ brackets) ≡ next = cc in subst (λ p. suc (length brackets) ≤ length p.brackets) same (omega arith)
 
-kept_by : (level depth : ℕ) (brackets : List Bracket) (next : Place) → Some (info_place level depth brackets) ≡ Some next → length brackets ≤ length next.brackets
-kept_by level depth brackets next e = let same : info_place level depth brackets ≡ next = cc in subst (λ p. length brackets ≤ length p.brackets) same (omega arith)
+kept_by : (level depth : ℕ) (brackets : List Bracket) (next : Position) → Some (info_position level depth brackets) ≡ Some next → length brackets ≤ length next.brackets
+kept_by level depth brackets next e = let same : info_position level depth brackets ≡ next = cc in subst (λ p. length brackets ≤ length p.brackets) same (omega arith)
 
-opens_round : (level depth : ℕ) (brackets : List Bracket) (next : Place) → in_info brackets (info_place level depth brackets) (Punct 40) ≡ Some next → suc (length brackets) ≤ length next.brackets
+opens_round : (level depth : ℕ) (brackets : List Bracket) (next : Position) → in_info brackets (info_position level depth brackets) (Punct 40) ≡ Some next → suc (length brackets) ≤ length next.brackets
 opens_round level depth [] next e = opened_by level depth [] Round (Punct 40) next e
 opens_round level depth (Round ∷ outer) next e = opened_by level depth (Round ∷ outer) Round (Punct 40) next e
 opens_round level depth (Square ∷ outer) next e = opened_by level depth (Square ∷ outer) Round (Punct 40) next e
 
-opens_square : (level depth : ℕ) (brackets : List Bracket) (next : Place) → in_info brackets (info_place level depth brackets) (Punct 91) ≡ Some next → suc (length brackets) ≤ length next.brackets
+opens_square : (level depth : ℕ) (brackets : List Bracket) (next : Position) → in_info brackets (info_position level depth brackets) (Punct 91) ≡ Some next → suc (length brackets) ≤ length next.brackets
 opens_square level depth [] next e = opened_by level depth [] Square (Punct 91) next e
 opens_square level depth (Round ∷ outer) next e = opened_by level depth (Round ∷ outer) Square (Punct 91) next e
 opens_square level depth (Square ∷ outer) next e = opened_by level depth (Square ∷ outer) Square (Punct 91) next e
 
-comma_keeps : (level depth : ℕ) (brackets : List Bracket) (next : Place) → in_info brackets (info_place level depth brackets) (Punct 44) ≡ Some next → length brackets ≤ length next.brackets
+comma_keeps : (level depth : ℕ) (brackets : List Bracket) (next : Position) → in_info brackets (info_position level depth brackets) (Punct 44) ≡ Some next → length brackets ≤ length next.brackets
 comma_keeps level depth [] next e = omega arith
 comma_keeps level depth (Round ∷ outer) next e = kept_by level depth (Round ∷ outer) next e
 comma_keeps level depth (Square ∷ outer) next e = kept_by level depth (Square ∷ outer) next e
 
-number_keeps : (text : List ℕ) (plain : Bool) (level depth : ℕ) (brackets : List Bracket) (next : Place) → in_info brackets (info_place level depth brackets) (Number text plain) ≡ Some next → length brackets ≤ length next.brackets
+number_keeps : (text : List ℕ) (plain : Bool) (level depth : ℕ) (brackets : List Bracket) (next : Position) → in_info brackets (info_position level depth brackets) (Number text plain) ≡ Some next → length brackets ≤ length next.brackets
 number_keeps text plain level depth [] next e = omega arith
 number_keeps text plain level depth (Round ∷ outer) next e = kept_by level depth (Round ∷ outer) next e
 number_keeps text plain level depth (Square ∷ outer) next e = kept_by level depth (Square ∷ outer) next e
 
-square_closes : (level depth : ℕ) (brackets : List Bracket) (next : Place) → in_info brackets (info_place level depth brackets) (Punct 93) ≡ Some next → length brackets ≤ suc (length next.brackets)
+square_closes : (level depth : ℕ) (brackets : List Bracket) (next : Position) → in_info brackets (info_position level depth brackets) (Punct 93) ≡ Some next → length brackets ≤ suc (length next.brackets)
 square_closes level depth [] next e = omega arith
 square_closes level depth (Round ∷ outer) next e = absurd cc
 square_closes level depth (Square ∷ outer) next e = let k = kept_by level depth outer next e in omega (arith, k)
@@ -60,7 +60,7 @@ pub record Begun (depth : ℕ) (brackets : List Bracket) (chosen : List ℕ) (to
   pub numbers : chosen ≡ filter_map number_of_token tokens
 
 -- what is known of the tokens of an item, at each place of the table of items
-abbrev pub InItem : List Bracket → ItemPlace → List ℕ → List Shape → Type 0
+abbrev pub InItem : List Bracket → ItemState → List ℕ → List Shape → Type 0
 InItem brackets item_start chosen tokens = (tokens ≡ []) × (chosen ≡ [])
 InItem brackets word_read chosen tokens = (tokens ≡ Lower (codes "conclude") ∷ []) × (chosen ≡ [])
 InItem brackets item_open chosen tokens = Begun 1 brackets chosen tokens
@@ -87,7 +87,7 @@ add_number brackets after chosen tokens text h few = record {
 }
 
 -- of two places one was taken
-pick : (test : Bool) (p : ItemPlace) (o : Option ItemPlace) (q : ItemPlace) → at_item test p o ≡ Some q → ((test ≡ true) × (p ≡ q)) ⊎ ((test ≡ false) × (o ≡ Some q))
+pick : (test : Bool) (p : ItemState) (o : Option ItemState) (q : ItemState) → at_item test p o ≡ Some q → ((test ≡ true) × (p ≡ q)) ⊎ ((test ≡ false) × (o ≡ Some q))
 pick true p o q e = inl (refl, cc)
 pick false p o q e = inr (refl, e)
 
@@ -95,14 +95,14 @@ other_first : (s : Shape) (rest : List Shape) → is_keyword (codes "conclude") 
 other_first s [] h = refl
 other_first s (m ∷ more) h = ap (λ b. b && is_mark left_round m) h
 
-module _ (words : List Bool) (level depth : ℕ) (brackets : List Bracket) (next : Place) (chosen : List ℕ) (tokens : List Shape) where
+module _ (words : List Bool) (level depth : ℕ) (brackets : List Bracket) (next : Position) (chosen : List ℕ) (tokens : List Shape) where
   abbrev Goes : Shape → Type 0
-  Goes s = in_info brackets (info_place level depth brackets) s ≡ Some next
+  Goes s = in_info brackets (info_position level depth brackets) s ≡ Some next
 
-  abbrev Added : ItemPlace → Shape → Type 0
+  abbrev Added : ItemState → Shape → Type 0
   Added q s = InItem next.brackets q (with_number chosen q) (tokens ++ s ∷ [])
 
-  number_added : (last : ℕ) (s : Shape) (q : ItemPlace) → Begun 2 brackets chosen tokens → Goes s → number_at words last s ≡ Some q → Added q s
+  number_added : (last : ℕ) (s : Shape) (q : ItemState) → Begun 2 brackets chosen tokens → Goes s → number_at words last s ≡ Some q → Added q s
   number_added last (Number text true) q h goes e =
       elim (pick (may_follow words last (digits_value 10 text)) (number_read (digits_value 10 text)) None q e) [
         | inl k ↦ let few = number_keeps text true level depth brackets next goes in let many = h.few in
@@ -119,14 +119,14 @@ module _ (words : List Bool) (level depth : ℕ) (brackets : List Bracket) (next
   number_added last (Punct byte) q h goes e = absurd cc
 
   -- the list of numbers closes
-  list_ends : (s : Shape) (q : ItemPlace) → Begun 2 brackets chosen tokens → Goes s → is_mark right_square s ≡ true → list_closed ≡ q → Added q s
+  list_ends : (s : Shape) (q : ItemState) → Begun 2 brackets chosen tokens → Goes s → is_mark right_square s ≡ true → list_closed ≡ q → Added q s
   list_ends s q h goes test same =
       let is = mark_is right_square s test in
       let few = square_closes level depth brackets next (subst Goes is goes) in
       let many = h.few in
       subst (λ x. Added x s) same (subst (λ x. Added list_closed x) (sym is) (add_mark 2 1 brackets next.brackets chosen tokens right_square h (omega (arith, few, many))))
 
-  pub item_added : (p q : ItemPlace) (s : Shape) → InItem brackets p chosen tokens → Goes s → item_step words p s ≡ Some q → Added q s
+  pub item_added : (p q : ItemState) (s : Shape) → InItem brackets p chosen tokens → Goes s → item_step words p s ≡ Some q → Added q s
   item_added item_start q s h goes e =
       elim (pick (is_keyword (codes "conclude") s) word_read (Some other_item) q e) [
         | inl k ↦ subst (λ x. Added x s) k.1 (ap (λ u. u ++ s ∷ []) h.0 ∙ ap (λ x. x ∷ []) (keyword_is (codes "conclude") s k.0), h.1)
@@ -187,7 +187,7 @@ gives_one items chosen tokens h same =
     sym (conclusions_append items tokens ∙ ap (λ u. conclusions items ++ u) (one ∙ ap (λ x. x ∷ []) (sym same)))
 
 -- the item ends outside brackets
-pub item_ended : (p : ItemPlace) (chosen : List ℕ) (tokens : List Shape) (conclude : List (List ℕ)) (items : List (List Shape)) → InItem [] p chosen tokens → conclude ≡ conclusions items → with_item conclude chosen p ≡ conclusions (items ++ tokens ∷ [])
+pub item_ended : (p : ItemState) (chosen : List ℕ) (tokens : List Shape) (conclude : List (List ℕ)) (items : List (List Shape)) → InItem [] p chosen tokens → conclude ≡ conclusions items → with_item conclude chosen p ≡ conclusions (items ++ tokens ∷ [])
 item_ended item_start chosen tokens conclude items h c = c ∙ gives_none items tokens (ap gives_conclusions h.0)
 item_ended word_read chosen tokens conclude items h c = c ∙ gives_none items tokens (ap gives_conclusions h.0)
 item_ended item_open chosen tokens conclude items h c = let few : 1 ≤ 0 = h.few in absurd (omega (arith, few))

@@ -23,7 +23,6 @@ pub mod InItems
 pub mod Following
 pub mod Stepping
 pub mod Meant
-pub mod Between
 pub mod Fronts
 pub mod CleanTokens
 pub mod Asking

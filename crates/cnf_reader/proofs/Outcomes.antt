@@ -10,9 +10,8 @@ use Rattle.cnf_grammar.specs.Shapes.{Shape}
 use Rattle.cnf_grammar.specs.Spelling.{spell_statement}
 use Rattle.cnf_grammar.specs.Table.{run, start, is_end}
 use Rattle.cnf_grammar.specs.Trees as trees
-use Rattle.cnf_grammar.specs.declared.mode.Mode.{Mode}
-use Rattle.cnf_grammar.specs.declared.mode.Mode.TheVariants.{Statement, ClauseClosed, IncludeClosed}
-use Rattle.cnf_grammar.specs.declared.place.Place.{Place}
+use Rattle.cnf_grammar.specs.declared.state.State.{State}
+use Rattle.cnf_grammar.specs.declared.state.State.TheVariants.{ClauseClosed, IncludeClosed}
 use Rattle.cnf_grammar.proofs.Joined.{only_files, some_is_front, may_end, run_step}
 use Rattle.cnf_grammar.proofs.Whole.{file_gathered}
 use Rattle.cnf_reader.specs.declared.fault.ReadKind.{ReadKind}
@@ -28,7 +27,7 @@ use Rattle.cnf_reader.specs.Reading.{Source, shape_in, and_then, fault_at, go_on
 use Rattle.cnf_reader.specs.Statements.{fresh, take}
 use Rattle.cnf_reader.specs.Stops.{Stop, at_token, at_text, at_the_end, in_include}
 use Rattle.cnf_reader.proofs.Fronts.{front_grows, front_ends}
-use Rattle.cnf_reader.proofs.Meant.{meant, between_again}
+use Rattle.cnf_reader.proofs.Meant.{meant, starts_again}
 use Rattle.cnf_reader.proofs.Saying.{shapes_same, says_more, says_spells}
 use Rattle.cnf_reader.proofs.Standing.{Stands, fresh_stands, stands_on, none_taken, begins_next, include_names}
 use Rattle.cnf_reader.proofs.Stopping.{token_says}
@@ -46,15 +45,13 @@ module _ (lower : Lower) (source : Source) (first : Kept) where
 
   -- these tokens were passed: those of whole statements, which say what is kept, and those of the statement under way
   record Has (passed : List Token) (p : Pending) (kept : Kept) : Type 0 where
-    runs : run start (shapes passed) ≡ Some p.place
+    runs : run start (shapes passed) ≡ Some p.position
     before : List Written
     own : List Written
     cut : written passed ≡ before ++ own
     file : List trees.Statement
     says : Says lower source first before file kept
-    place : Place
-    between : place.mode ≡ Statement
-    front : TakesFront (is_full kept) source.selections (fresh place) own p
+    front : TakesFront (is_full kept) source.selections fresh own p
     stands : Stands own p
 
   -- what comes of the file
@@ -68,20 +65,20 @@ module _ (lower : Lower) (source : Source) (first : Kept) where
 
   -- where none is left
   module _ (p : Pending) (kept : Kept) (has : Has all p kept) (came : Result Kept ReadFault) where
-    whole_file : is_end p.place ≡ true → (tokens_of source.bytes).fault ≡ None → IsReadAsSaid lower source first kept
+    whole_file : is_end p.position ≡ true → (tokens_of source.bytes).fault ≡ None → IsReadAsSaid lower source first kept
     whole_file ends none =
         let said : written_tokens source.bytes ≡ has.before = has.cut ∙ (ap (λ u. has.before ++ u) (none_taken has.own p has.stands ends) ∙ append-nil has.before) in
         let says : Says lower source first (written_tokens source.bytes) has.file kept = subst (λ u. Says lower source first u has.file kept) (sym said) has.says in
         record { file = has.file; spells = says_spells lower source first (written_tokens source.bytes) has.file kept says ∙ shapes_same source.bytes all; whole = none; says = says }
 
-    by_end : (ends : Bool) → is_end p.place ≡ ends → (tokens_of source.bytes).fault ≡ None
+    by_end : (ends : Bool) → is_end p.position ≡ ends → (tokens_of source.bytes).fault ≡ None
         → (if ends then Ok kept else fault_at Expected source.name (spot_at source.bytes (length source.bytes)).line (spot_at source.bytes (length source.bytes)).column) ≡ came → Comes came
     by_end true is none e = subst Comes e (whole_file is none)
-    by_end false is none e = subst Comes e (at_the_end none (some_is_front (shapes all) p.place has.runs) (λ file. true≢false (sym ((may_end (shapes all) p.place has.runs).1 file) ∙ is)) refl)
+    by_end false is none e = subst Comes e (at_the_end none (some_is_front (shapes all) p.position has.runs) (λ file. true≢false (sym ((may_end (shapes all) p.position has.runs).1 file) ∙ is)) refl)
 
     by_text : (text : Option LexFault) → (tokens_of source.bytes).fault ≡ text → at_end source p kept text ≡ came → Comes came
-    by_text None none e = by_end (is_end p.place) refl none e
-    by_text (Some text) met e = subst Comes e (at_text text met (some_is_front (shapes all) p.place has.runs) refl)
+    by_text None none e = by_end (is_end p.position) refl none e
+    by_text (Some text) met e = subst Comes e (at_text text met (some_is_front (shapes all) p.position has.runs) refl)
 
   none_left : Reads []
   unfolding read_tokens
@@ -102,13 +99,13 @@ module _ (lower : Lower) (source : Source) (first : Kept) where
     cut_on : written longer ≡ has.before ++ own
     cut_on = map-append (written_in source.bytes) passed (token ∷ []) ∙ (ap (λ u. u ++ here ∷ []) has.cut ∙ append_assoc has.before has.own (here ∷ []))
 
-    runs_on : run start (shapes longer) ≡ Some next.place
+    runs_on : run start (shapes longer) ≡ Some next.position
     runs_on =
         let k = was_taken (is_full kept) source.selections p here.shape here.line here.column next takes in
-        ap (run start) (map-append (shape_in source.bytes) passed (token ∷ [])) ∙ (run_step (shapes passed) p.place here.shape has.runs ∙ (k.leads ∙ ap (λ (q : Pending). Some q.place) k.is))
+        ap (run start) (map-append (shape_in source.bytes) passed (token ∷ [])) ∙ (run_step (shapes passed) p.position here.shape has.runs ∙ (k.leads ∙ ap (λ (q : Pending). Some q.position) k.is))
 
     -- it ends no statement
-    goes_on : ends_statement p.place.mode ≡ false → Has longer next kept
+    goes_on : ends_statement p.position.state ≡ false → Has longer next kept
     goes_on goes = record {
       runs = runs_on;
       before = has.before;
@@ -116,43 +113,38 @@ module _ (lower : Lower) (source : Source) (first : Kept) where
       cut = cut_on;
       file = has.file;
       says = has.says;
-      place = has.place;
-      between = has.between;
-      front = front_grows (is_full kept) source.selections (fresh has.place) has.own p here next has.front goes takes;
+      front = front_grows (is_full kept) source.selections fresh has.own p here next has.front goes takes;
       stands = stands_on (is_full kept) source.selections p has.own here next has.stands takes goes;
     }
 
     -- it ends one, which means what it holds
-    module _ (mode : Mode) (is : p.place.mode ≡ mode) (ends : ends_statement mode ≡ true) where
-      statement : TakesStatement (is_full kept) source.selections (fresh has.place) own mode next
+    module _ (state : State) (is : p.position.state ≡ state) (ends : ends_statement state ≡ true) where
+      statement : TakesStatement (is_full kept) source.selections fresh own state next
       statement =
-          subst (λ m. TakesStatement (is_full kept) source.selections (fresh has.place) own m next) is
-          (front_ends (is_full kept) source.selections (fresh has.place) has.own p here next has.front (ap ends_statement is ∙ ends) takes)
+          subst (λ m. TakesStatement (is_full kept) source.selections fresh own m next) is
+          (front_ends (is_full kept) source.selections fresh has.own p here next has.front (ap ends_statement is ∙ ends) takes)
 
-      means : HoldsItsMeaning own mode next
-      means = meant (is_full kept) source.selections only_files file_gathered has.place has.between own mode next statement
+      means : HoldsItsMeaning own state next
+      means = meant (is_full kept) source.selections only_files file_gathered own state next statement
 
       alone : spell_statement means.0 ≡ shapes_of own
       alone = sym (append-nil (spell_statement means.0)) ∙ means.1
 
-      says_own : (later : Kept) → SaysOne lower source kept own (meaning means.0) later → Has longer (fresh next.place) later
+      says_own : (later : Kept) → SaysOne lower source kept own (meaning means.0) later → Has longer fresh later
       says_own later one =
-          let again = between_again (is_full kept) source.selections has.place has.between own mode next statement in
           record {
-            runs = runs_on;
+            runs = runs_on ∙ ap Some (starts_again (is_full kept) source.selections own state next statement);
             before = has.before ++ own;
             own = [];
             cut = cut_on ∙ sym (append-nil (has.before ++ own));
             file = has.file ++ means.0 ∷ [];
             says = says_more lower source first has.before has.file kept own means.0 later has.says alone one;
-            place = next.place;
-            between = again;
             front = refl;
-            stands = fresh_stands next.place again;
+            stands = fresh_stands;
           }
 
     -- it ends a clause
-    keeps : p.place.mode ≡ ClauseClosed → Has longer (fresh next.place) (keep source.selections kept source.number next)
+    keeps : p.position.state ≡ ClauseClosed → Has longer fresh (keep source.selections kept source.number next)
     keeps is =
         let m = means ClauseClosed is refl in
         let later = keep source.selections kept source.number next in
@@ -160,11 +152,11 @@ module _ (lower : Lower) (source : Source) (first : Kept) where
         (subst (λ u. SaysOne lower source kept own u later) (sym m.2.1) (record { statement = next; holds = m.2.2; begins = begins_next (is_full kept) source.selections p has.own here next has.stands takes; is = refl }))
 
     -- it ends an include
-    module _ (is : p.place.mode ≡ IncludeClosed) where
+    module _ (is : p.position.state ≡ IncludeClosed) where
       asks : AsksFor own next.asked.file (names_seen next.asked.names) next.asked
       asks = record { file_is = refl; names_are = refl; stands = include_names (is_full kept) source.selections p has.own here next has.stands takes is }
 
-      follows : (later : Kept) → lower next.asked kept ≡ Ok later → Has longer (fresh next.place) later
+      follows : (later : Kept) → lower next.asked kept ≡ Ok later → Has longer fresh later
       follows later reads = says_own IncludeClosed is refl later (subst (λ u. SaysOne lower source kept own u later) (sym (means IncludeClosed is refl).2) (record { asked = next.asked; asks = asks; reads = reads }))
 
       -- a fault in its file
@@ -186,21 +178,21 @@ module _ (lower : Lower) (source : Source) (first : Kept) where
     split : all ≡ (passed ++ token ∷ []) ++ tokens
     split = is ∙ sym (append_assoc passed (token ∷ []) tokens)
 
-    by_include : (next : Pending) (read : Result Kept ReadFault) → found ≡ Ok next → p.place.mode ≡ IncludeClosed → lower next.asked kept ≡ read → and_then read (λ later. rest (fresh next.place) later) ≡ came → Comes came
+    by_include : (next : Pending) (read : Result Kept ReadFault) → found ≡ Ok next → p.position.state ≡ IncludeClosed → lower next.asked kept ≡ read → and_then read (λ later. rest fresh later) ≡ came → Comes came
     by_include next (Err fault) takes at reads e = subst Comes e (stops passed p kept has token next takes at tokens fault split reads)
-    by_include next (Ok later) takes at reads e = reads_on (passed ++ token ∷ []) (fresh next.place) later came split (follows passed p kept has token next takes at later reads) e
+    by_include next (Ok later) takes at reads e = reads_on (passed ++ token ∷ []) fresh later came split (follows passed p kept has token next takes at later reads) e
 
-    by_token : (taken : Result Pending ReadKind) (mode : Mode) → found ≡ taken → p.place.mode ≡ mode → go_on lower source kept mode token taken rest ≡ came → Comes came
-    by_token (Err kind) mode takes at e =
+    by_token : (taken : Result Pending ReadKind) (state : State) → found ≡ taken → p.position.state ≡ state → go_on lower source kept state token taken rest ≡ came → Comes came
+    by_token (Err kind) state takes at e =
         subst Comes e (at_token passed tokens token kind is (token_says (is_full kept) source.selections p (shape_in source.bytes token) (shapes passed) has.runs kind token.line token.column takes) refl)
-    by_token (Ok next) ClauseClosed takes at e = reads_on (passed ++ token ∷ []) (fresh next.place) (keep source.selections kept source.number next) came split (keeps passed p kept has token next takes at) e
+    by_token (Ok next) ClauseClosed takes at e = reads_on (passed ++ token ∷ []) fresh (keep source.selections kept source.number next) came split (keeps passed p kept has token next takes at) e
     by_token (Ok next) IncludeClosed takes at e = by_include next (lower next.asked kept) takes at refl e
-    by_token (Ok next) mode takes at e = reads_on (passed ++ token ∷ []) next kept came split (goes_on passed p kept has token next takes (ap ends_statement at)) e
+    by_token (Ok next) state takes at e = reads_on (passed ++ token ∷ []) next kept came split (goes_on passed p kept has token next takes (ap ends_statement at)) e
 
   one_left : (token : Token) (tokens : List Token) → Reads tokens → Reads (token ∷ tokens)
   unfolding read_tokens
   one_left token tokens reads_on passed p kept came is has e =
-      by_token token tokens reads_on passed p kept came is has (take (is_full kept) source.selections p (shape_in source.bytes token) token.line token.column) p.place.mode refl refl e
+      by_token token tokens reads_on passed p kept came is has (take (is_full kept) source.selections p (shape_in source.bytes token) token.line token.column) p.position.state refl refl e
 
   reads : (tokens : List Token) → Reads tokens
   reads [] = none_left
@@ -209,7 +201,7 @@ module _ (lower : Lower) (source : Source) (first : Kept) where
   -- of all tokens of the file
   comes : (came : Result Kept ReadFault) → read_source lower source first ≡ came → Comes came
   comes came e =
-      reads all [] (fresh start) first came refl (record { runs = refl; before = []; own = []; cut = refl; file = []; says = (refl, refl); place = start; between = refl; front = refl; stands = fresh_stands start refl }) e
+      reads all [] fresh first came refl (record { runs = refl; before = []; own = []; cut = refl; file = []; says = (refl, refl); front = refl; stands = fresh_stands }) e
 
 -- a file that reads without a fault is read as its statements say
 pub read_as_said : (lower : Lower) (source : Source) (kept after : Kept) → read_source lower source kept ≡ Ok after → IsReadAsSaid lower source kept after

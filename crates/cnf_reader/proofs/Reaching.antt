@@ -7,7 +7,7 @@ use Rattle.cnf_reader.specs.declared.fault.ReadFault.{ReadFault}
 use Rattle.cnf_reader.specs.declared.fault.ReadKind.{ReadKind}
 use Rattle.cnf_reader.specs.declared.kept.Kept.{Kept}
 use Rattle.cnf_reader.specs.declared.pending.Asked.{Asked}
-use Rattle.cnf_reader.specs.declared.files.Step.TheVariants.{Ended, Clause, Include, Fault}
+use Rattle.cnf_reader.specs.declared.part.Part.TheVariants.{Ended, Clause, Include, Fault}
 use Rattle.cnf_reader.specs.Reading.{World, and_then, fault_at, include_in, reading_of, NeverFails, AreTold}
 use Rattle.cnf_reader.specs.Parts.{Stays}
 use Rattle.cnf_reader.specs.Openings.{Finding, FindsTwo}

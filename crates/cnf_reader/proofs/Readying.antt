@@ -11,9 +11,8 @@ use Rattle.cnf_grammar.specs.Shapes.{Shape}
 use Rattle.cnf_grammar.specs.Soundness.{is_clean, is_whole, literal_variables, literal_suits, IsSound}
 use Rattle.cnf_grammar.specs.Spelling.{spell, spell_statement}
 use Rattle.cnf_grammar.specs.Trees as trees
-use Rattle.cnf_grammar.specs.declared.mode.Mode.{Mode}
-use Rattle.cnf_grammar.specs.declared.mode.Mode.TheVariants.{Statement, ClauseClosed}
-use Rattle.cnf_grammar.specs.declared.place.Place.{Place}
+use Rattle.cnf_grammar.specs.declared.state.State.{State}
+use Rattle.cnf_grammar.specs.declared.state.State.TheVariants.{Statement, ClauseClosed}
 use Rattle.cnf_grammar.proofs.Clean.{clause_clean}
 use Rattle.cnf_grammar.proofs.Joined.{only_files}
 use Rattle.cnf_grammar.proofs.Sound.{clause_sound}
@@ -27,7 +26,7 @@ use Rattle.cnf_reader.specs.Statements.{fresh, take}
 use Rattle.cnf_reader.specs.declared.pending.Pending.{Pending}
 use Rattle.cnf_reader.proofs.Asking.{fresh_asks, asks_on, asks_within}
 use Rattle.cnf_reader.proofs.Fronts.{front_grows, front_ends}
-use Rattle.cnf_reader.proofs.Meant.{meant, between_again}
+use Rattle.cnf_reader.proofs.Meant.{meant}
 use Rattle.cnf_reader.proofs.Within.{fresh_within, within_roomy, stays_within, clause_limited}
 
 -- what is known of the clause of a statement from its tree
@@ -66,21 +65,21 @@ clean_more tokens t clean first =
     ap (list_all is_clean) (map-append (λ (w : Written). w.shape) tokens (t ∷ [])) ∙ list_all-append is_clean (shapes_of tokens) (t.shape ∷ []) ∙ rw (clean, first) refl
 
 -- no token was taken
-pub led_fresh : (is_full : Bool) (selections : List (Option (List Name))) (place : Place) (all : ℕ) → place.mode ≡ Statement → IsLed is_full selections place all (fresh place) all
-led_fresh is_full selections place all between = record {
+pub led_fresh : (is_full : Bool) (selections : List (Option (List Name))) (all : ℕ) → IsLed is_full selections all fresh all
+led_fresh is_full selections all = record {
   tokens = [];
   front = refl;
   clean = refl;
-  within = fresh_within is_full selections place between;
-  asks = fresh_asks place;
+  within = fresh_within is_full selections;
+  asks = fresh_asks;
   count = omega arith;
 }
 
 -- of the tokens of a file, each number that counts them has room for one more
-pub led_roomy : (is_full : Bool) (selections : List (Option (List Name))) (place : Place) (all left : ℕ) (p : Pending) → IsLed is_full selections place all p left → all ≤ 16777216 → IsRoomyPending p
-led_roomy is_full selections place all left p led few = let e = led.count in within_roomy is_full selections (length led.tokens) p led.within (omega (arith, e, few))
+pub led_roomy : (is_full : Bool) (selections : List (Option (List Name))) (all left : ℕ) (p : Pending) → IsLed is_full selections all p left → all ≤ 16777216 → IsRoomyPending p
+led_roomy is_full selections all left p led few = let e = led.count in within_roomy is_full selections (length led.tokens) p led.within (omega (arith, e, few))
 
-module _ (is_full : Bool) (selections : List (Option (List Name))) (place : Place) (all before left : ℕ) (fewer : before ≡ suc left) (p : Pending) (led : IsLed is_full selections place all p before)
+module _ (is_full : Bool) (selections : List (Option (List Name))) (all before left : ℕ) (fewer : before ≡ suc left) (p : Pending) (led : IsLed is_full selections all p before)
     (t : Written) (next : Pending) (clean : is_clean t.shape ≡ true) (takes : take is_full selections p t.shape t.line t.column ≡ Ok next) where
   grown : length (led.tokens ++ t ∷ []) ≡ suc (length led.tokens)
   grown = let e = length-append led.tokens (t ∷ []) in omega (arith, e)
@@ -89,10 +88,10 @@ module _ (is_full : Bool) (selections : List (Option (List Name))) (place : Plac
   asks_next = asks_on is_full selections p next t.shape t.line t.column (length led.tokens) takes clean led.asks
 
   -- one more token was taken, which ends no statement
-  pub led_on : ends_statement p.place.mode ≡ false → IsLed is_full selections place all next left
+  pub led_on : ends_statement p.position.state ≡ false → IsLed is_full selections all next left
   led_on goes = record {
     tokens = led.tokens ++ t ∷ [];
-    front = front_grows is_full selections (fresh place) led.tokens p t next led.front goes takes;
+    front = front_grows is_full selections fresh led.tokens p t next led.front goes takes;
     clean = clean_more led.tokens t led.clean clean;
     within =
         subst (λ n. IsWithin is_full selections n next) (sym grown)
@@ -101,27 +100,23 @@ module _ (is_full : Bool) (selections : List (Option (List Name))) (place : Plac
     count = let e = led.count in let g = grown in omega (arith, e, g, fewer);
   }
 
-  module _ (between : place.mode ≡ Statement) (mode : Mode) (is : p.place.mode ≡ mode) (ends : ends_statement mode ≡ true) where
-    statement : TakesStatement is_full selections (fresh place) (led.tokens ++ t ∷ []) mode next
+  module _ (state : State) (is : p.position.state ≡ state) (ends : ends_statement state ≡ true) where
+    statement : TakesStatement is_full selections fresh (led.tokens ++ t ∷ []) state next
     statement =
-        subst (λ m. TakesStatement is_full selections (fresh place) (led.tokens ++ t ∷ []) m next) is
-        (front_ends is_full selections (fresh place) led.tokens p t next led.front (ap ends_statement is ∙ ends) takes)
+        subst (λ m. TakesStatement is_full selections fresh (led.tokens ++ t ∷ []) m next) is
+        (front_ends is_full selections fresh led.tokens p t next led.front (ap ends_statement is ∙ ends) takes)
 
-    -- behind the dot it is between statements
-    pub again_between : next.place.mode ≡ Statement
-    again_between = between_again is_full selections place between (led.tokens ++ t ∷ []) mode next statement
+    means : HoldsItsMeaning (led.tokens ++ t ∷ []) state next
+    means = meant is_full selections only_files file_gathered (led.tokens ++ t ∷ []) state next statement
 
-    means : HoldsItsMeaning (led.tokens ++ t ∷ []) mode next
-    means = meant is_full selections only_files file_gathered place between (led.tokens ++ t ∷ []) mode next statement
-
-  module _ (between : place.mode ≡ Statement) (is : p.place.mode ≡ ClauseClosed) where
+  module _ (is : p.position.state ≡ ClauseClosed) where
     limited : IsLimited (suc (length led.tokens)) next × ((is_full && is_selected selections next.name) ≡ false)
     limited = clause_limited is_full selections p next t.shape t.line t.column (length led.tokens) led.within is takes
 
     -- the clause may be kept
     pub led_ready : all ≤ 16777216 → IsReady next
     led_ready few =
-        let known = of_meaning (led.tokens ++ t ∷ []) next (means between ClauseClosed is refl) (clean_more led.tokens t led.clean clean) in
+        let known = of_meaning (led.tokens ++ t ∷ []) next (means ClauseClosed is refl) (clean_more led.tokens t led.clean clean) in
         record {
           taken = suc (length led.tokens);
           few = let e = led.count in omega (arith, e, few, fewer);

@@ -4,8 +4,8 @@ use Rattle.std.specs.List.{list_all}
 use Rattle.std.specs.Str.Parse.{digits_value}
 use Rattle.std.proofs.lemmas.Bool.{and_from, and_parts}
 use Rattle.std.proofs.lemmas.List.Folds.{list_all-append}
-use Rattle.cnf_grammar.specs.declared.item.ItemPlace.{ItemPlace}
-use Rattle.cnf_grammar.specs.declared.item.ItemPlace.TheVariants.{Start as item_start, WordRead as word_read, Open as item_open, ListOpen as list_open, NumberRead as number_read, NumberStart as number_start, ListClosed as list_closed, Closed as item_closed, Other as other_item}
+use Rattle.cnf_grammar.specs.declared.item.ItemState.{ItemState}
+use Rattle.cnf_grammar.specs.declared.item.ItemState.TheVariants.{Start as item_start, WordRead as word_read, Open as item_open, ListOpen as list_open, NumberRead as number_read, NumberStart as number_start, ListClosed as list_closed, Closed as item_closed, Other as other_item}
 use Rattle.cnf_grammar.specs.Items.{names_above, at_item, number_at, item_step}
 use Rattle.cnf_grammar.specs.Shapes.{Shape, Lower, Upper, Quoted, Distinct, Dollar, Number, NotEqual, Punct, left_round, right_round, left_square, right_square, comma, is_keyword, is_mark}
 use Rattle.cnf_grammar.specs.Conclude.{may_follow, are_conclusions_above}
@@ -24,16 +24,16 @@ rises_more words (first ∷ chosen) start last k h same e =
     (and_from (may_follow words start first) (are_conclusions_above words first (chosen ++ k ∷ [])) two.0 more.0, more.1)
 
 -- it holds of the place where the token leads, if to any
-abbrev OnItem : (ItemPlace → Type 0) → Option ItemPlace → Type 0
+abbrev OnItem : (ItemState → Type 0) → Option ItemState → Type 0
 OnItem P None = Unit {0}
 OnItem P (Some item) = P item
 
-on_item : (P : ItemPlace → Type 0) (test : Bool) (item : ItemPlace) (other : Option ItemPlace) → (test ≡ true → P item) → OnItem P other → OnItem P (at_item test item other)
+on_item : (P : ItemState → Type 0) (test : Bool) (item : ItemState) (other : Option ItemState) → (test ≡ true → P item) → OnItem P other → OnItem P (at_item test item other)
 on_item P true item other h k = h refl
 on_item P false item other h k = k
 
 module _ (words : List Bool) (chosen : List ℕ) where
-  abbrev Rises : ItemPlace → Type 0
+  abbrev Rises : ItemState → Type 0
   Rises item = ItemRises words (with_number chosen item) item
 
   number_rises : (last : ℕ) (s : Shape) → RiseTo words chosen last → OnItem Rises (number_at words last s)
@@ -47,7 +47,7 @@ module _ (words : List Bool) (chosen : List ℕ) where
   number_rises last NotEqual h = tt
   number_rises last (Punct byte) h = tt
 
-  item_rises : (item : ItemPlace) (s : Shape) → ItemRises words chosen item → OnItem Rises (item_step words item s)
+  item_rises : (item : ItemState) (s : Shape) → ItemRises words chosen item → OnItem Rises (item_step words item s)
   item_rises item_start s h = on_item Rises (is_keyword (codes "conclude") s) word_read (Some other_item) (λ e. h) tt
   item_rises word_read s h = on_item Rises (is_mark left_round s) item_open (Some other_item) (λ e. h) tt
   item_rises item_open s h = on_item Rises (is_mark left_square s) list_open None (λ e. h) tt
@@ -60,12 +60,12 @@ module _ (words : List Bool) (chosen : List ℕ) where
   item_rises item_closed s h = tt
   item_rises other_item s h = tt
 
-taken_rises : (p : Pending) (item : Option ItemPlace) → OnItem (Rises p.words p.chosen) item → InfoRises p → InfoRises (take_item p item)
+taken_rises : (p : Pending) (item : Option ItemState) → OnItem (Rises p.words p.chosen) item → InfoRises p → InfoRises (take_item p item)
 taken_rises p None k h = h
 taken_rises p (Some item) k h = (h.0, h.1, k)
 
 -- the items that are whole, with the one that ends
-ended_rises : (words : List Bool) (conclude : List (List ℕ)) (chosen : List ℕ) (item : ItemPlace) → list_all (are_conclusions_above words 0) conclude ≡ true → ItemRises words chosen item
+ended_rises : (words : List Bool) (conclude : List (List ℕ)) (chosen : List ℕ) (item : ItemState) → list_all (are_conclusions_above words 0) conclude ≡ true → ItemRises words chosen item
     → list_all (are_conclusions_above words 0) (with_item conclude chosen item) ≡ true
 ended_rises words conclude chosen item_closed h k =
     list_all-append (are_conclusions_above words 0) conclude (chosen ∷ [])

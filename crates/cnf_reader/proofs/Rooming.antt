@@ -46,12 +46,12 @@ term_leaves s d = refl
 -- a further argument leaves the literals
 pub next_leaves : (words : List ℕ) (d : Draft) → (next_argument_of words d).literals ≡ d.literals
 next_leaves [] d = refl
-next_leaves (place ∷ outer) d = refl
+next_leaves (position ∷ outer) d = refl
 
 -- the end of the arguments leaves the literals
 pub close_leaves : (words : List ℕ) (d : Draft) → (close_words words d).literals ≡ d.literals
 close_leaves [] d = refl
-close_leaves (place ∷ outer) d = refl
+close_leaves (position ∷ outer) d = refl
 
 -- the literal that was under way is whole
 pub room_finished : (atom : List Item) (d : Draft) → atom ≡ d.atom → HasAtMost 64 d → (length (finish_atom atom d).literals ≤ 64) × ((finish_atom atom d).atom ≡ [])

@@ -4,8 +4,8 @@ use Rattle.std.proofs.lemmas.Bool.Decides.{nat_tests}
 use Rattle.std.proofs.lemmas.List.{length-append}
 use Rattle.std.proofs.lemmas.List.Elements.{All-nil, All-cons, All-head, All-tail, All-append, All-weaker}
 use Rattle.mg_word.specs.declared.clause.Name.{Name}
-use Rattle.cnf_grammar.specs.declared.mode.Mode.{Mode}
-use Rattle.cnf_grammar.specs.declared.mode.Mode.TheVariants.{FormulaStart, LiteralStart, AtomStart, WordRead, TermStart, TermRead}
+use Rattle.cnf_grammar.specs.declared.state.State.{State}
+use Rattle.cnf_grammar.specs.declared.state.State.TheVariants.{FormulaStart, LiteralStart, AtomStart, WordRead, TermStart, TermRead}
 use Rattle.cnf_grammar.specs.Shapes.{Shape, Lower, Upper, Quoted, Distinct, Dollar, Number, Punct, left_round, comma, tilde, is_mark}
 use Rattle.cnf_grammar.specs.Meaning.{Item, symbol_item, variable_item, ClauseLiteral, always, never, signed}
 use Rattle.cnf_grammar.specs.Draft.{Draft, has_text, with_variable, add_argument, next_argument_of, close_words, constant, finish_atom, begin_literal, begin_term, end_term, end_word, collect_at}
@@ -33,20 +33,20 @@ pub all_narrow : (few many : ℕ) → few ≤ many → (literals : List ClauseLi
 all_narrow few many more literals h = All-weaker (IsNarrow few) (IsNarrow many) (λ literal narrow. all_few few many more _ narrow) literals h
 
 -- one more argument is one more
-argued : (taken place : ℕ) (items : List Item) → All (HasFew taken) items → All (HasFew (suc taken)) (add_argument place items)
-argued taken place [] h = All-nil (HasFew (suc taken))
+argued : (taken position : ℕ) (items : List Item) → All (HasFew taken) items → All (HasFew (suc taken)) (add_argument position items)
+argued taken position [] h = All-nil (HasFew (suc taken))
 argued taken zero (symbol_item symbol ∷ items) h =
     let few : symbol.arity ≤ taken = All-head (HasFew taken) (symbol_item symbol) items h in
     All-cons (HasFew (suc taken)) (symbol_item (record symbol { arity = suc symbol.arity })) items (omega (arith, few)) (all_few taken (suc taken) (omega arith) items (All-tail (HasFew taken) (symbol_item symbol) items h))
 argued taken zero (variable_item index ∷ items) h = all_few taken (suc taken) (omega arith) (variable_item index ∷ items) h
-argued taken (suc place) (item ∷ items) h =
-    All-cons (HasFew (suc taken)) item (add_argument place items) (few_weaker taken (suc taken) (omega arith) item (All-head (HasFew taken) item items h)) (argued taken place items (All-tail (HasFew taken) item items h))
+argued taken (suc position) (item ∷ items) h =
+    All-cons (HasFew (suc taken)) item (add_argument position items) (few_weaker taken (suc taken) (omega arith) item (All-head (HasFew taken) item items h)) (argued taken position items (All-tail (HasFew taken) item items h))
 
-argued_length : (place : ℕ) (items : List Item) → length (add_argument place items) ≡ length items
-argued_length place [] = refl
+argued_length : (position : ℕ) (items : List Item) → length (add_argument position items) ≡ length items
+argued_length position [] = refl
 argued_length zero (symbol_item symbol ∷ items) = refl
 argued_length zero (variable_item index ∷ items) = refl
-argued_length (suc place) (item ∷ items) = ap suc (argued_length place items)
+argued_length (suc position) (item ∷ items) = ap suc (argued_length position items)
 
 -- the variables are not too many with one for which there was room
 room_by : (known full : Bool) (variables : List (List ℕ)) (text : List ℕ) (fault : ReadKind) → nat_le 32 (length variables) ≡ full → length variables ≤ 32 → (if full && not known then Some fault else None) ≡ None
@@ -77,12 +77,12 @@ module _ (taken : ℕ) (d : Draft) (h : IsSpare taken d) where
   }
 
   -- one more argument
-  spare_argument : (place : ℕ) (open_words : List ℕ) → IsSpare (suc taken) (record d { atom = add_argument place d.atom; open_words = open_words })
-  spare_argument place open_words = record {
+  spare_argument : (position : ℕ) (open_words : List ℕ) → IsSpare (suc taken) (record d { atom = add_argument position d.atom; open_words = open_words })
+  spare_argument position open_words = record {
     variables = h.variables;
-    items = let many = h.items in let same = argued_length place d.atom in omega (arith, many, same);
+    items = let many = h.items in let same = argued_length position d.atom in omega (arith, many, same);
     literals = all_narrow taken (suc taken) (omega arith) d.literals h.literals;
-    atom = argued taken place d.atom h.atom;
+    atom = argued taken position d.atom h.atom;
   }
 
   -- a literal that takes the items of the atom, or none of them
@@ -127,11 +127,11 @@ module _ (taken : ℕ) (d : Draft) (h : IsSpare taken d) where
 
   spare_next : (words : List ℕ) → IsSpare (suc taken) (next_argument_of words d)
   spare_next [] = spare_same
-  spare_next (place ∷ outer) = spare_argument place d.open_words
+  spare_next (position ∷ outer) = spare_argument position d.open_words
 
   spare_closed : (words : List ℕ) → IsSpare (suc taken) (close_words words d)
   spare_closed [] = spare_same
-  spare_closed (place ∷ outer) = record { variables = h.variables; items = spare_same.items; literals = spare_same.literals; atom = spare_same.atom }
+  spare_closed (position ∷ outer) = record { variables = h.variables; items = spare_same.items; literals = spare_same.literals; atom = spare_same.atom }
 
   spare_behind : (depth : ℕ) (s : Shape) → IsSpare (suc taken) (end_term depth s d)
   spare_behind zero s = spare_finished d.atom refl
@@ -144,11 +144,11 @@ module _ (taken : ℕ) (d : Draft) (h : IsSpare taken d) where
   ]
 
   -- what a token adds stays within one token more
-  pub spare_stays : (is_full : Bool) (selections : List (Option (List Name))) (mode : Mode) (depth : ℕ) (s : Shape) → limit_fault is_full selections mode d s ≡ None → IsSpare (suc taken) (collect_at mode depth s d)
+  pub spare_stays : (is_full : Bool) (selections : List (Option (List Name))) (state : State) (depth : ℕ) (s : Shape) → limit_fault is_full selections state d s ≡ None → IsSpare (suc taken) (collect_at state depth s d)
   spare_stays is_full selections FormulaStart depth s room = spare_begun s
   spare_stays is_full selections LiteralStart depth s room = spare_begun s
   spare_stays is_full selections AtomStart depth s room = spare_begun s
   spare_stays is_full selections WordRead depth s room = spare_word depth s
   spare_stays is_full selections TermStart depth s room = spare_term s room
   spare_stays is_full selections TermRead depth s room = spare_behind depth s
-  spare_stays is_full selections mode depth s room = spare_same
+  spare_stays is_full selections state depth s room = spare_same

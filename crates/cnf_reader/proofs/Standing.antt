@@ -2,21 +2,21 @@
 use Rattle.std.proofs.Common.{◌≡◌, ℕ, zero, suc, Bool, true, false, not, cond, ◌||◌, List, [], ◌∷◌, ◌++◌, Option, Some, None, Ok, codes, refl, sym, ap, ◌∙◌, subst, if◌then◌else◌}
 use Rattle.mg_word.specs.declared.clause.Name.{Name}
 use Rattle.cnf_grammar.specs.declared.brackets.Bracket.{Bracket}
-use Rattle.cnf_grammar.specs.declared.mode.Mode.{Mode}
-use Rattle.cnf_grammar.specs.declared.mode.Mode.TheVariants.{Statement, ClauseWord, NameStart, NameRead, RoleStart, RoleRead, FormulaStart, LiteralStart, AtomStart, WordRead, TermStart, TermRead, FormulaClosed, SourceStart, Source, InfoStart, Info, InfoClosed, ClauseClosed, IncludeWord, FileStart, FileRead, SelectionStart, SelectionOpen, SelectedStart, SelectedRead, SelectionClosed, IncludeClosed}
-use Rattle.cnf_grammar.specs.declared.place.Place.{Place}
-use Rattle.cnf_grammar.specs.declared.item.ItemPlace.{ItemPlace}
+use Rattle.cnf_grammar.specs.declared.state.State.{State}
+use Rattle.cnf_grammar.specs.declared.state.State.TheVariants.{Statement, ClauseWord, NameStart, NameRead, RoleStart, RoleRead, FormulaStart, LiteralStart, AtomStart, WordRead, TermStart, TermRead, FormulaClosed, SourceStart, Source, InfoStart, Info, InfoClosed, ClauseClosed, IncludeWord, FileStart, FileRead, SelectionStart, SelectionOpen, SelectedStart, SelectedRead, SelectionClosed, IncludeClosed}
+use Rattle.cnf_grammar.specs.declared.position.Position.{Position}
+use Rattle.cnf_grammar.specs.declared.item.ItemState.{ItemState}
 use Rattle.cnf_grammar.specs.Items.{item_step}
 use Rattle.cnf_grammar.specs.Shapes.{Shape, left_round, right_round, left_square, right_square, comma, bar, tilde, is_mark, is_bracket, is_keyword, is_defined, is_lower, is_word, is_name, is_simple_term, is_file_name}
 use Rattle.cnf_grammar.specs.Spelling.{closing}
-use Rattle.cnf_grammar.specs.Table.{or_else, to, step_at, any_token, within, atom_start, literal_start, after_formula, after_term, is_end_mode, is_end}
+use Rattle.cnf_grammar.specs.Table.{or_else, to, step_at, any_token, within, atom_start, literal_start, after_formula, after_term, is_end_state, is_end}
 use Rattle.cnf_reader.specs.declared.pending.Asked.{Asked}
 use Rattle.cnf_reader.specs.declared.pending.Pending.{Pending}
 use Rattle.cnf_reader.specs.Faults.{name_of}
 use Rattle.cnf_reader.specs.Files.{BeginAt, NameFileAt}
 use Rattle.cnf_reader.specs.Meanings.{Written, ends_statement}
 use Rattle.cnf_reader.specs.Statements.{fresh, take, add_at, add_name, take_info, take_item, is_outside_items, with_name}
-use Rattle.cnf_reader.proofs.Following.{place}
+use Rattle.cnf_reader.proofs.Following.{position}
 use Rattle.cnf_reader.proofs.Limiting.{Leads}
 use Rattle.cnf_reader.proofs.Taking.{was_taken}
 
@@ -31,7 +31,7 @@ AreTwo (first ∷ second ∷ []) = Unit {0}
 AreTwo _ = ⊥
 
 -- how far these tokens of a statement lead in this mode, where it asks for a file that is named at this line and column
-abbrev pub Lie : Mode → List Written → ℕ → ℕ → Type 0
+abbrev pub Lie : State → List Written → ℕ → ℕ → Type 0
 Lie Statement tokens line column = tokens ≡ []
 Lie IncludeWord tokens line column = AreOne tokens
 Lie FileStart tokens line column = AreTwo tokens
@@ -42,12 +42,12 @@ Lie SelectedStart tokens line column = NameFileAt tokens line column
 Lie SelectedRead tokens line column = NameFileAt tokens line column
 Lie SelectionClosed tokens line column = NameFileAt tokens line column
 Lie IncludeClosed tokens line column = NameFileAt tokens line column
-Lie mode tokens line column = Unit {0}
+Lie state tokens line column = Unit {0}
 
 -- the statement under way begins where the first of its tokens stands, and names its file where the third does
 pub record Stands (tokens : List Written) (p : Pending) : Type 0 where
-  pub begins : (p.place.mode ≡ Statement → ⊥) → BeginAt tokens p.line p.column
-  pub lies : Lie p.place.mode tokens p.asked.line p.asked.column
+  pub begins : (p.position.state ≡ Statement → ⊥) → BeginAt tokens p.line p.column
+  pub lies : Lie p.position.state tokens p.asked.line p.asked.column
 
 begin_longer : (tokens : List Written) (t : Written) (line column : ℕ) → BeginAt tokens line column → BeginAt (tokens ++ t ∷ []) line column
 begin_longer [] t line column h = absurd h
@@ -79,7 +79,7 @@ name_leaves : (asked : Asked) (s : Shape) (is : Bool) → let after = if is then
 name_leaves asked s true = (refl, refl)
 name_leaves asked s false = (refl, refl)
 
-item_leaves : (p : Pending) (o : Option ItemPlace) → ((take_item p o).line ≡ p.line) × ((take_item p o).column ≡ p.column)
+item_leaves : (p : Pending) (o : Option ItemState) → ((take_item p o).line ≡ p.line) × ((take_item p o).column ≡ p.column)
 item_leaves p None = (refl, refl)
 item_leaves p (Some item) = (refl, refl)
 
@@ -88,45 +88,45 @@ info_leaves true p s = (refl, refl)
 info_leaves false p s = item_leaves p (item_step p.words p.item s)
 
 -- of the places to which a token may lead, that of the first test that holds, or what follows
-led : (P : Place → Type 0) (test : Bool) (next : Place) (other : Option Place) → P next → Leads P other → Leads P (or_else test next other)
+led : (P : Position → Type 0) (test : Bool) (next : Position) (other : Option Position) → P next → Leads P other → Leads P (or_else test next other)
 led P true next other h k = h
 led P false next other h k = k
 
 module _ (tokens : List Written) (line column : ℕ) where
-  abbrev At : Place → Type 0
-  At q = Lie q.mode tokens line column
+  abbrev At : Position → Type 0
+  At q = Lie q.state tokens line column
 
   -- a token of a clause leads to another mode of a clause
-  any_on : (q : Place) (s : Shape) → At q → Leads At (any_token q s)
+  any_on : (q : Position) (s : Shape) → At q → Leads At (any_token q s)
   any_on q s h = led At (is_mark left_round s) _ _ h (led At (is_mark left_square s) _ _ h (led At (not (is_bracket s)) q None h tt))
 
-  within_on : (bracket : Bracket) (outer : List Bracket) (q : Place) (s : Shape) → At q → Leads At (within bracket outer q s)
+  within_on : (bracket : Bracket) (outer : List Bracket) (q : Position) (s : Shape) → At q → Leads At (within bracket outer q s)
   within_on bracket outer q s h = led At (is_mark (closing bracket) s) _ _ h (any_on q s h)
 
-  atom_on : (q : Place) (s : Shape) → Leads At (atom_start q s)
+  atom_on : (q : Position) (s : Shape) → Leads At (atom_start q s)
   atom_on q s = led At (is_word s) _ _ tt (led At (is_defined (codes "$true") s || is_defined (codes "$false") s) _ None tt tt)
 
-  literal_on : (q : Place) (s : Shape) → Leads At (literal_start q s)
+  literal_on : (q : Position) (s : Shape) → Leads At (literal_start q s)
   literal_on q s = led At (is_mark tilde s) _ _ tt (atom_on q s)
 
-  formula_on : (level : ℕ) (q : Place) (s : Shape) → Leads At (after_formula level q s)
+  formula_on : (level : ℕ) (q : Position) (s : Shape) → Leads At (after_formula level q s)
   formula_on zero q s = led At (is_mark comma s) _ _ tt (led At (is_mark right_round s) _ None tt tt)
   formula_on (suc level) q s = led At (is_mark right_round s) _ None tt tt
 
-  term_on : (depth : ℕ) (q : Place) (s : Shape) → Leads At (after_term depth q s)
+  term_on : (depth : ℕ) (q : Position) (s : Shape) → Leads At (after_term depth q s)
   term_on zero q s = led At (is_mark bar s) _ _ tt (formula_on q.level (to FormulaClosed q) s)
   term_on (suc depth) q s = led At (is_mark comma s) _ _ tt (led At (is_mark right_round s) _ None tt tt)
 
-  source_on : (test : Bool) (q : Place) (s : Shape) → At q → Leads At (cond test None (any_token q s))
+  source_on : (test : Bool) (q : Position) (s : Shape) → At q → Leads At (cond test None (any_token q s))
   source_on true q s h = tt
   source_on false q s h = any_on q s h
 
 module _ (p : Pending) (t : Written) (tokens : List Written) (is_outside : Bool) (level depth : ℕ) where
-  abbrev Added : Mode → Pending
-  Added mode = add_at mode depth is_outside p t.shape t.line t.column
+  abbrev Added : State → Pending
+  Added state = add_at state depth is_outside p t.shape t.line t.column
 
-  abbrev Goes : Mode → Place → Type 0
-  Goes mode next = Lie next.mode (tokens ++ t ∷ []) (Added mode).asked.line (Added mode).asked.column
+  abbrev Goes : State → Position → Type 0
+  Goes state next = Lie next.state (tokens ++ t ∷ []) (Added state).asked.line (Added state).asked.column
 
   longer : NameFileAt tokens p.asked.line p.asked.column → NameFileAt (tokens ++ t ∷ []) p.asked.line p.asked.column
   longer h = name_longer tokens t p.asked.line p.asked.column h
@@ -137,26 +137,26 @@ module _ (p : Pending) (t : Written) (tokens : List Written) (is_outside : Bool)
       subst (λ l. NameFileAt (tokens ++ t ∷ []) l (with_name p.asked t.shape).column) (sym same.0) (subst (λ c. NameFileAt (tokens ++ t ∷ []) p.asked.line c) (sym same.1) (longer h))
 
   -- one more token
-  lies_on : (mode : Mode) (brackets : List Bracket) → ends_statement mode ≡ false → Lie mode tokens p.asked.line p.asked.column → Leads (Goes mode) (step_at mode (place mode level depth brackets) t.shape)
+  lies_on : (state : State) (brackets : List Bracket) → ends_statement state ≡ false → Lie state tokens p.asked.line p.asked.column → Leads (Goes state) (step_at state (position state level depth brackets) t.shape)
   lies_on Statement brackets goes h = led (Goes Statement) (is_keyword (codes "cnf") t.shape) _ _ tt (led (Goes Statement) (is_keyword (codes "include") t.shape) _ None (first_one tokens t h) tt)
   lies_on ClauseWord brackets goes h = led (Goes ClauseWord) (is_mark left_round t.shape) _ None tt tt
   lies_on NameStart brackets goes h = led (Goes NameStart) (is_name t.shape) _ None tt tt
   lies_on NameRead brackets goes h = led (Goes NameRead) (is_mark comma t.shape) _ None tt tt
   lies_on RoleStart brackets goes h = led (Goes RoleStart) (is_lower t.shape) _ None tt tt
   lies_on RoleRead brackets goes h = led (Goes RoleRead) (is_mark comma t.shape) _ None tt tt
-  lies_on FormulaStart brackets goes h = led (Goes FormulaStart) (is_mark left_round t.shape) _ _ tt (literal_on _ _ _ (place FormulaStart level depth brackets) t.shape)
-  lies_on LiteralStart brackets goes h = literal_on _ _ _ (place LiteralStart level depth brackets) t.shape
-  lies_on AtomStart brackets goes h = atom_on _ _ _ (place AtomStart level depth brackets) t.shape
-  lies_on WordRead brackets goes h = led (Goes WordRead) (is_mark left_round t.shape) _ _ tt (term_on _ _ _ depth (place TermRead level depth brackets) t.shape)
+  lies_on FormulaStart brackets goes h = led (Goes FormulaStart) (is_mark left_round t.shape) _ _ tt (literal_on _ _ _ (position FormulaStart level depth brackets) t.shape)
+  lies_on LiteralStart brackets goes h = literal_on _ _ _ (position LiteralStart level depth brackets) t.shape
+  lies_on AtomStart brackets goes h = atom_on _ _ _ (position AtomStart level depth brackets) t.shape
+  lies_on WordRead brackets goes h = led (Goes WordRead) (is_mark left_round t.shape) _ _ tt (term_on _ _ _ depth (position TermRead level depth brackets) t.shape)
   lies_on TermStart brackets goes h = led (Goes TermStart) (is_simple_term t.shape) _ _ tt (led (Goes TermStart) (is_word t.shape) _ None tt tt)
-  lies_on TermRead brackets goes h = term_on _ _ _ depth (place TermRead level depth brackets) t.shape
-  lies_on FormulaClosed brackets goes h = formula_on _ _ _ level (place FormulaClosed level depth brackets) t.shape
-  lies_on SourceStart brackets goes h = source_on _ _ _ (is_mark comma t.shape) (place Source level depth []) t.shape tt
-  lies_on Source [] goes h = led (Goes Source) (is_mark comma t.shape) _ _ tt (led (Goes Source) (is_mark right_round t.shape) _ _ tt (any_on _ _ _ (place Source level depth []) t.shape tt))
-  lies_on Source (bracket ∷ outer) goes h = within_on _ _ _ bracket outer (place Source level depth (bracket ∷ outer)) t.shape tt
+  lies_on TermRead brackets goes h = term_on _ _ _ depth (position TermRead level depth brackets) t.shape
+  lies_on FormulaClosed brackets goes h = formula_on _ _ _ level (position FormulaClosed level depth brackets) t.shape
+  lies_on SourceStart brackets goes h = source_on _ _ _ (is_mark comma t.shape) (position Source level depth []) t.shape tt
+  lies_on Source [] goes h = led (Goes Source) (is_mark comma t.shape) _ _ tt (led (Goes Source) (is_mark right_round t.shape) _ _ tt (any_on _ _ _ (position Source level depth []) t.shape tt))
+  lies_on Source (bracket ∷ outer) goes h = within_on _ _ _ bracket outer (position Source level depth (bracket ∷ outer)) t.shape tt
   lies_on InfoStart brackets goes h = led (Goes InfoStart) (is_mark left_square t.shape) _ None tt tt
-  lies_on Info [] goes h = led (Goes Info) (is_mark right_square t.shape) _ _ tt (any_on _ _ _ (place Info level depth []) t.shape tt)
-  lies_on Info (bracket ∷ outer) goes h = within_on _ _ _ bracket outer (place Info level depth (bracket ∷ outer)) t.shape tt
+  lies_on Info [] goes h = led (Goes Info) (is_mark right_square t.shape) _ _ tt (any_on _ _ _ (position Info level depth []) t.shape tt)
+  lies_on Info (bracket ∷ outer) goes h = within_on _ _ _ bracket outer (position Info level depth (bracket ∷ outer)) t.shape tt
   lies_on InfoClosed brackets goes h = led (Goes InfoClosed) (is_mark right_round t.shape) _ None tt tt
   lies_on ClauseClosed brackets goes h = absurd cc
   lies_on IncludeWord brackets goes h = led (Goes IncludeWord) (is_mark left_round t.shape) _ None (then_two tokens t h) tt
@@ -169,24 +169,24 @@ module _ (p : Pending) (t : Written) (tokens : List Written) (is_outside : Bool)
   lies_on SelectionClosed brackets goes h = led (Goes SelectionClosed) (is_mark right_round t.shape) _ None (longer h) tt
   lies_on IncludeClosed brackets goes h = absurd cc
 
-  begins_on : (mode : Mode) → (mode ≡ Statement → tokens ≡ []) → ((mode ≡ Statement → ⊥) → BeginAt tokens p.line p.column) → BeginAt (tokens ++ t ∷ []) (Added mode).line (Added mode).column
+  begins_on : (state : State) → (state ≡ Statement → tokens ≡ []) → ((state ≡ Statement → ⊥) → BeginAt tokens p.line p.column) → BeginAt (tokens ++ t ∷ []) (Added state).line (Added state).column
   begins_on Statement none h = subst (λ u. BeginAt (u ++ t ∷ []) t.line t.column) (sym (none refl)) (refl, refl)
   begins_on Info none h =
       let same = info_leaves is_outside p t.shape in
       subst (λ l. BeginAt (tokens ++ t ∷ []) l (take_info is_outside p t.shape).column) (sym same.0) (subst (λ c. BeginAt (tokens ++ t ∷ []) p.line c) (sym same.1) (begin_longer tokens t p.line p.column (h (λ e. cc))))
-  begins_on mode none h = begin_longer tokens t p.line p.column (h (λ e. cc))
+  begins_on state none h = begin_longer tokens t p.line p.column (h (λ e. cc))
 
 -- no token of a statement was taken
-pub fresh_stands : (place : Place) → place.mode ≡ Statement → Stands [] (fresh place)
-fresh_stands place between = record { begins = λ apart. absurd (apart between); lies = subst (λ m. Lie m [] 0 0) (sym between) refl }
+pub fresh_stands : Stands [] fresh
+fresh_stands = record { begins = λ apart. absurd (apart refl); lies = refl }
 
 -- where no statement is under way, no token of one was taken
-pub none_taken : (tokens : List Written) (p : Pending) → Stands tokens p → is_end p.place ≡ true → tokens ≡ []
-none_taken tokens p h ends = at p.place.mode ends h.lies
+pub none_taken : (tokens : List Written) (p : Pending) → Stands tokens p → is_end p.position ≡ true → tokens ≡ []
+none_taken tokens p h ends = at p.position.state ends h.lies
   where
-    at : (mode : Mode) → is_end_mode mode ≡ true → Lie mode tokens p.asked.line p.asked.column → tokens ≡ []
+    at : (state : State) → is_end_state state ≡ true → Lie state tokens p.asked.line p.asked.column → tokens ≡ []
     at Statement is lies = lies
-    at mode is lies = absurd cc
+    at state is lies = absurd cc
 
 module _ (is_full : Bool) (selections : List (Option (List Name))) (p : Pending) (tokens : List Written) (t : Written) (next : Pending) (h : Stands tokens p) (takes : take is_full selections p t.shape t.line t.column ≡ Ok next) where
   -- with one more token it begins where the first of its tokens stands
@@ -194,22 +194,22 @@ module _ (is_full : Bool) (selections : List (Option (List Name))) (p : Pending)
   begins_next =
       let k = was_taken is_full selections p t.shape t.line t.column next takes in
       subst (λ (q : Pending). BeginAt (tokens ++ t ∷ []) q.line q.column) k.is
-      (begins_on p t tokens (is_outside_items p.place t.shape) p.place.level p.place.depth p.place.mode (λ e. subst (λ m. Lie m tokens p.asked.line p.asked.column) e h.lies) h.begins)
+      (begins_on p t tokens (is_outside_items p.position t.shape) p.position.level p.position.depth p.position.state (λ e. subst (λ m. Lie m tokens p.asked.line p.asked.column) e h.lies) h.begins)
 
   -- with one more token, which ends no statement, it still does
-  pub stands_on : ends_statement p.place.mode ≡ false → Stands (tokens ++ t ∷ []) next
+  pub stands_on : ends_statement p.position.state ≡ false → Stands (tokens ++ t ∷ []) next
   stands_on goes =
       let k = was_taken is_full selections p t.shape t.line t.column next takes in
-      let outside = is_outside_items p.place t.shape in
+      let outside = is_outside_items p.position t.shape in
       record {
         begins = λ apart. begins_next;
-        lies = subst (λ (q : Pending). Lie q.place.mode (tokens ++ t ∷ []) q.asked.line q.asked.column) k.is
-            (subst (Leads (Goes p t tokens outside p.place.level p.place.depth p.place.mode)) k.leads (lies_on p t tokens outside p.place.level p.place.depth p.place.mode p.place.brackets goes h.lies));
+        lies = subst (λ (q : Pending). Lie q.position.state (tokens ++ t ∷ []) q.asked.line q.asked.column) k.is
+            (subst (Leads (Goes p t tokens outside p.position.level p.position.depth p.position.state)) k.leads (lies_on p t tokens outside p.position.level p.position.depth p.position.state p.position.brackets goes h.lies));
       }
 
   -- behind the dot of an include its file is named where its third token stands
-  pub include_names : p.place.mode ≡ IncludeClosed → NameFileAt (tokens ++ t ∷ []) next.asked.line next.asked.column
+  pub include_names : p.position.state ≡ IncludeClosed → NameFileAt (tokens ++ t ∷ []) next.asked.line next.asked.column
   include_names is =
       let k = was_taken is_full selections p t.shape t.line t.column next takes in
-      let same : p.asked ≡ next.asked = ap (λ m. (add_at m p.place.depth (is_outside_items p.place t.shape) p t.shape t.line t.column).asked) (sym is) ∙ ap (λ (q : Pending). q.asked) k.is in
+      let same : p.asked ≡ next.asked = ap (λ m. (add_at m p.position.depth (is_outside_items p.position t.shape) p t.shape t.line t.column).asked) (sym is) ∙ ap (λ (q : Pending). q.asked) k.is in
       subst (λ (a : Asked). NameFileAt (tokens ++ t ∷ []) a.line a.column) same (name_longer tokens t p.asked.line p.asked.column (subst (λ m. Lie m tokens p.asked.line p.asked.column) is h.lies))

@@ -1,10 +1,10 @@
 -- A token that is taken adds to the statement under way what the grammar gathers, in each mode.
 use Rattle.std.proofs.Common.{◌≡◌, ℕ, Bool, true, false, not, cond, ◌&&◌, ◌||◌, inl, inr, List, [], ◌∷◌, ◌++◌, Option, Some, None, refl, sym, ap, subst, if◌then◌else◌}
 use Rattle.cnf_grammar.specs.declared.brackets.Bracket.{Bracket}
-use Rattle.cnf_grammar.specs.declared.mode.Mode.{Mode}
-use Rattle.cnf_grammar.specs.declared.mode.Mode.TheVariants.{Statement, ClauseWord, NameStart, NameRead, RoleStart, RoleRead, FormulaStart, LiteralStart, AtomStart, WordRead, TermStart, TermRead, FormulaClosed, SourceStart, Source, InfoStart, Info, InfoClosed, ClauseClosed, IncludeWord, FileStart, FileRead, SelectionStart, SelectionOpen, SelectedStart, SelectedRead, SelectionClosed, IncludeClosed}
-use Rattle.cnf_grammar.specs.declared.place.Place.{Place}
-use Rattle.cnf_grammar.specs.declared.item.ItemPlace.{ItemPlace}
+use Rattle.cnf_grammar.specs.declared.state.State.{State}
+use Rattle.cnf_grammar.specs.declared.state.State.TheVariants.{Statement, ClauseWord, NameStart, NameRead, RoleStart, RoleRead, FormulaStart, LiteralStart, AtomStart, WordRead, TermStart, TermRead, FormulaClosed, SourceStart, Source, InfoStart, Info, InfoClosed, ClauseClosed, IncludeWord, FileStart, FileRead, SelectionStart, SelectionOpen, SelectedStart, SelectedRead, SelectionClosed, IncludeClosed}
+use Rattle.cnf_grammar.specs.declared.position.Position.{Position}
+use Rattle.cnf_grammar.specs.declared.item.ItemState.{ItemState}
 use Rattle.cnf_grammar.specs.Items.{item_step}
 use Rattle.cnf_grammar.specs.Shapes.{Shape, comma, left_round, left_square, right_round, right_square, is_mark, is_bracket, is_name}
 use Rattle.cnf_grammar.specs.Spelling.{closing}
@@ -17,29 +17,29 @@ use Rattle.cnf_reader.specs.declared.pending.Pending.{Pending}
 use Rattle.cnf_reader.specs.Faults.{name_of, ends_item}
 use Rattle.cnf_reader.specs.Statements.{is_outermost, is_broken, add_at, take_info, take_item, end_item, add_name}
 use Rattle.cnf_reader.specs.Meanings.{ends_statement}
-use Rattle.cnf_reader.proofs.InItems.{info_place, InItem, item_added, item_ended}
-use Rattle.cnf_reader.proofs.Following.{place, is_selection_start, is_late, goes_there, true_false, NamesFollow, names_early, names_late, ItemFollows, in_item, outside_info, Follows, name_same, file_same, names_same}
+use Rattle.cnf_reader.proofs.InItems.{info_position, InItem, item_added, item_ended}
+use Rattle.cnf_reader.proofs.Following.{position, is_selection_start, is_late, goes_there, true_false, NamesFollow, names_early, names_late, ItemFollows, in_item, outside_info, Follows, name_same, file_same, names_same}
 
 -- a token within an info stays in it
-abbrev InInfo : Option Place → Type 0
+abbrev InInfo : Option Position → Type 0
 InInfo None = Unit {0}
-InInfo (Some p) = p.mode ≡ Info
+InInfo (Some p) = p.state ≡ Info
 
-stay : (test : Bool) (p : Place) (o : Option Place) → p.mode ≡ Info → InInfo o → InInfo (or_else test p o)
+stay : (test : Bool) (p : Position) (o : Option Position) → p.state ≡ Info → InInfo o → InInfo (or_else test p o)
 stay true p o h k = h
 stay false p o h k = k
 
-stay_any : (p : Place) (s : Shape) → p.mode ≡ Info → InInfo (any_token p s)
+stay_any : (p : Position) (s : Shape) → p.state ≡ Info → InInfo (any_token p s)
 stay_any p s h = stay (is_mark left_round s) _ _ h (stay (is_mark left_square s) _ _ h (stay (not (is_bracket s)) p None h tt))
 
-pass : (test other : Bool) (p : Place) (o : Option Place) → (other || test) ≡ false → InInfo o → InInfo (or_else test p o)
+pass : (test other : Bool) (p : Position) (o : Option Position) → (other || test) ≡ false → InInfo o → InInfo (or_else test p o)
 pass true true p o h k = cc
 pass true false p o h k = cc
 pass false other p o h k = k
 
-stays : (level depth : ℕ) (brackets : List Bracket) (s : Shape) → (is_outermost brackets && (is_mark comma s || is_mark right_square s)) ≡ false → InInfo (in_info brackets (info_place level depth brackets) s)
-stays level depth [] s h = pass (is_mark right_square s) (is_mark comma s) _ _ h (stay_any (info_place level depth []) s refl)
-stays level depth (bracket ∷ outer) s h = stay (is_mark (closing bracket) s) _ _ refl (stay_any (info_place level depth (bracket ∷ outer)) s refl)
+stays : (level depth : ℕ) (brackets : List Bracket) (s : Shape) → (is_outermost brackets && (is_mark comma s || is_mark right_square s)) ≡ false → InInfo (in_info brackets (info_position level depth brackets) s)
+stays level depth [] s h = pass (is_mark right_square s) (is_mark comma s) _ _ h (stay_any (info_position level depth []) s refl)
+stays level depth (bracket ∷ outer) s h = stay (is_mark (closing bracket) s) _ _ refl (stay_any (info_position level depth (bracket ∷ outer)) s refl)
 
 -- what the grammar gathers of an info's token
 gathers_more : (brackets : List Bracket) (s : Shape) (g : Gathered) → (is_outermost brackets && (is_mark comma s || is_mark right_square s)) ≡ false → record g { item = g.item ++ s ∷ [] } ≡ gather_item brackets s g
@@ -54,74 +54,74 @@ no_bracket : (brackets : List Bracket) (b : Bool) → (is_outermost brackets && 
 no_bracket [] b h = refl
 no_bracket (bracket ∷ outer) b h = cc
 
-module _ (before : List ReadStatement) (level depth : ℕ) (brackets : List Bracket) (p : Pending) (g : Gathered) (s : Shape) (line column : ℕ) (next : Place) where
+module _ (before : List ReadStatement) (level depth : ℕ) (brackets : List Bracket) (p : Pending) (g : Gathered) (s : Shape) (line column : ℕ) (next : Position) where
   -- whether the token stands between items or ends them
   abbrev pub outside : Bool
-  outside = is_outermost brackets && ends_item p.place s
+  outside = is_outermost brackets && ends_item p.position s
 
-  abbrev pub Goes : Mode → Type 0
-  Goes mode = step_at mode (place mode level depth brackets) s ≡ Some next
+  abbrev pub Goes : State → Type 0
+  Goes state = step_at state (position state level depth brackets) s ≡ Some next
 
   -- the names are left as they were
-  left_early : (mode : Mode) → is_late mode ≡ false → is_late next.mode ≡ false → Follows before mode brackets p g → NamesFollow next.mode p.asked.names g.names
+  left_early : (state : State) → is_late state ≡ false → is_late next.state ≡ false → Follows before state brackets p g → NamesFollow next.state p.asked.names g.names
   left_early SelectionStart early there h = cc
-  left_early mode early there h = names_early next.mode p.asked.names g.names there (h.names.same refl) (h.names.early early)
+  left_early state early there h = names_early next.state p.asked.names g.names there (h.names.same refl) (h.names.early early)
 
-  item_left : (mode : Mode) → (mode ≡ Info → ⊥) → Follows before mode brackets p g → ItemFollows next.mode next.brackets p.item p.chosen g.item
-  item_left mode apart h = inr (outside_info mode brackets p.item p.chosen g.item apart h.item)
+  item_left : (state : State) → (state ≡ Info → ⊥) → Follows before state brackets p g → ItemFollows next.state next.brackets p.item p.chosen g.item
+  item_left state apart h = inr (outside_info state brackets p.item p.chosen g.item apart h.item)
 
   -- a token that adds nothing
-  idle : (mode : Mode) → is_late mode ≡ false → is_late next.mode ≡ false → (mode ≡ Info → ⊥) → Follows before mode brackets p g → Follows before next.mode next.brackets p g
-  idle mode early there apart h = record { statements = h.statements; name = h.name; draft = h.draft; file = h.file; names = left_early mode early there h; conclude = h.conclude; item = item_left mode apart h }
+  idle : (state : State) → is_late state ≡ false → is_late next.state ≡ false → (state ≡ Info → ⊥) → Follows before state brackets p g → Follows before next.state next.brackets p g
+  idle state early there apart h = record { statements = h.statements; name = h.name; draft = h.draft; file = h.file; names = left_early state early there h; conclude = h.conclude; item = item_left state apart h }
 
-  idle_late : (mode : Mode) → is_selection_start mode ≡ false → (is_selection_start next.mode || not (is_late next.mode)) ≡ false → (mode ≡ Info → ⊥) → Follows before mode brackets p g → Follows before next.mode next.brackets p g
-  idle_late mode start there apart h = record { statements = h.statements; name = h.name; draft = h.draft; file = h.file; names = names_late next.mode p.asked.names g.names there (h.names.same start); conclude = h.conclude; item = item_left mode apart h }
+  idle_late : (state : State) → is_selection_start state ≡ false → (is_selection_start next.state || not (is_late next.state)) ≡ false → (state ≡ Info → ⊥) → Follows before state brackets p g → Follows before next.state next.brackets p g
+  idle_late state start there apart h = record { statements = h.statements; name = h.name; draft = h.draft; file = h.file; names = names_late next.state p.asked.names g.names there (h.names.same start); conclude = h.conclude; item = item_left state apart h }
 
   -- a token of a formula
-  in_formula : (mode : Mode) → is_late mode ≡ false → is_late next.mode ≡ false → (mode ≡ Info → ⊥) → Follows before mode brackets p g
-      → Follows before next.mode next.brackets (record p { draft = collect_at mode depth s p.draft }) (record g { formula = collect_at mode depth s g.formula })
-  in_formula mode early there apart h = record { statements = h.statements; name = h.name; draft = ap (collect_at mode depth s) h.draft; file = h.file; names = left_early mode early there h; conclude = h.conclude; item = item_left mode apart h }
+  in_formula : (state : State) → is_late state ≡ false → is_late next.state ≡ false → (state ≡ Info → ⊥) → Follows before state brackets p g
+      → Follows before next.state next.brackets (record p { draft = collect_at state depth s p.draft }) (record g { formula = collect_at state depth s g.formula })
+  in_formula state early there apart h = record { statements = h.statements; name = h.name; draft = ap (collect_at state depth s) h.draft; file = h.file; names = left_early state early there h; conclude = h.conclude; item = item_left state apart h }
 
   -- a name of a list
-  listed : (mode : Mode) → is_selection_start mode ≡ false → (is_selection_start next.mode || not (is_late next.mode)) ≡ false → (mode ≡ Info → ⊥) → Follows before mode brackets p g
-      → (is : Bool) → Follows before next.mode next.brackets (record p { asked = if is then record p.asked { names = add_name (name_of s) p.asked.names } else p.asked }) (cond is (record g { names = gathering.with_name g.names (token_name s) }) g)
-  listed mode start there apart h true = record {
+  listed : (state : State) → is_selection_start state ≡ false → (is_selection_start next.state || not (is_late next.state)) ≡ false → (state ≡ Info → ⊥) → Follows before state brackets p g
+      → (is : Bool) → Follows before next.state next.brackets (record p { asked = if is then record p.asked { names = add_name (name_of s) p.asked.names } else p.asked }) (cond is (record g { names = gathering.with_name g.names (token_name s) }) g)
+  listed state start there apart h true = record {
     statements = h.statements;
     name = h.name;
     draft = h.draft;
     file = h.file;
-    names = names_late next.mode (add_name (name_of s) p.asked.names) (gathering.with_name g.names (token_name s)) there (names_same s p.asked.names g.names (h.names.same start));
+    names = names_late next.state (add_name (name_of s) p.asked.names) (gathering.with_name g.names (token_name s)) there (names_same s p.asked.names g.names (h.names.same start));
     conclude = h.conclude;
-    item = item_left mode apart h;
+    item = item_left state apart h;
   }
-  listed mode start there apart h false = idle_late mode start there apart h
+  listed state start there apart h false = idle_late state start there apart h
 
   -- the token behind a file name
-  behind_file : (is round : Bool) → Follows before FileRead brackets p g → or_else is (place SelectionStart level depth brackets) (when round (place IncludeClosed level depth brackets)) ≡ Some next
-      → Follows before next.mode next.brackets p (cond is (record g { names = Some [] }) g)
-  behind_file true round h goes = let same : place SelectionStart level depth brackets ≡ next = cc in record {
+  behind_file : (is round : Bool) → Follows before FileRead brackets p g → or_else is (position SelectionStart level depth brackets) (when round (position IncludeClosed level depth brackets)) ≡ Some next
+      → Follows before next.state next.brackets p (cond is (record g { names = Some [] }) g)
+  behind_file true round h goes = let same : position SelectionStart level depth brackets ≡ next = cc in record {
     statements = h.statements;
     name = h.name;
     draft = h.draft;
     file = h.file;
-    names = record { opening = λ e. refl; same = λ e. absurd (true_false (is_selection_start next.mode) (sym (ap (λ q. is_selection_start q.mode) same)) e); early = λ e. absurd (true_false (is_late next.mode) (sym (ap (λ q. is_late q.mode) same)) e) };
+    names = record { opening = λ e. refl; same = λ e. absurd (true_false (is_selection_start next.state) (sym (ap (λ q. is_selection_start q.state) same)) e); early = λ e. absurd (true_false (is_late next.state) (sym (ap (λ q. is_late q.state) same)) e) };
     conclude = h.conclude;
     item = item_left FileRead (λ e. cc) h;
   }
-  behind_file false true h goes = let same : place IncludeClosed level depth brackets ≡ next = cc in record {
+  behind_file false true h goes = let same : position IncludeClosed level depth brackets ≡ next = cc in record {
     statements = h.statements;
     name = h.name;
     draft = h.draft;
     file = h.file;
-    names = names_late next.mode p.asked.names g.names (sym (ap (λ q. is_selection_start q.mode || not (is_late q.mode)) same)) (h.names.same refl);
+    names = names_late next.state p.asked.names g.names (sym (ap (λ q. is_selection_start q.state || not (is_late q.state)) same)) (h.names.same refl);
     conclude = h.conclude;
     item = item_left FileRead (λ e. cc) h;
   }
   behind_file false false h goes = absurd cc
 
   -- a token of an item
-  in_the_item : (o : Option ItemPlace) → item_step p.words p.item s ≡ o → is_broken o ≡ false → outside ≡ false → is_late next.mode ≡ false → Follows before Info brackets p g → Goes Info
-      → Follows before next.mode next.brackets (take_item p o) (record g { item = g.item ++ s ∷ [] })
+  in_the_item : (o : Option ItemState) → item_step p.words p.item s ≡ o → is_broken o ≡ false → outside ≡ false → is_late next.state ≡ false → Follows before Info brackets p g → Goes Info
+      → Follows before next.state next.brackets (take_item p o) (record g { item = g.item ++ s ∷ [] })
   in_the_item None e whole inside there h goes = absurd cc
   in_the_item (Some q) e whole inside there h goes = record {
     statements = h.statements;
@@ -134,11 +134,11 @@ module _ (before : List ReadStatement) (level depth : ℕ) (brackets : List Brac
   }
 
   -- a token of an info
-  in_the_info : (is : Bool) → outside ≡ is → (not is && is_broken (item_step p.words p.item s)) ≡ false → is_late next.mode ≡ false → Follows before Info brackets p g → Goes Info
-      → Follows before next.mode next.brackets (take_info is p s) (gather_item brackets s g)
+  in_the_info : (is : Bool) → outside ≡ is → (not is && is_broken (item_step p.words p.item s)) ≡ false → is_late next.state ≡ false → Follows before Info brackets p g → Goes Info
+      → Follows before next.state next.brackets (take_info is p s) (gather_item brackets s g)
   in_the_info true at whole there h goes =
-      let none = no_bracket brackets (ends_item p.place s) at in
-      subst (Follows before next.mode next.brackets (end_item p)) (gathers_end brackets s g at) (record {
+      let none = no_bracket brackets (ends_item p.position s) at in
+      subst (Follows before next.state next.brackets (end_item p)) (gathers_end brackets s g at) (record {
         statements = h.statements;
         name = h.name;
         draft = h.draft;
@@ -148,11 +148,11 @@ module _ (before : List ReadStatement) (level depth : ℕ) (brackets : List Brac
         item = inr (refl, refl, refl);
       })
   in_the_info false at whole there h goes =
-      subst (Follows before next.mode next.brackets (take_item p (item_step p.words p.item s))) (gathers_more brackets s g at)
+      subst (Follows before next.state next.brackets (take_item p (item_step p.words p.item s))) (gathers_more brackets s g at)
       (in_the_item (item_step p.words p.item s) refl whole at there h goes)
 
-  pub follows : (mode : Mode) → Follows before mode brackets p g → Goes mode → ends_statement mode ≡ false → (mode ≡ Info → (not outside && is_broken (item_step p.words p.item s)) ≡ false)
-      → Follows before next.mode next.brackets (add_at mode depth outside p s line column) (gather_at mode (place mode level depth brackets) s g)
+  pub follows : (state : State) → Follows before state brackets p g → Goes state → ends_statement state ≡ false → (state ≡ Info → (not outside && is_broken (item_step p.words p.item s)) ≡ false)
+      → Follows before next.state next.brackets (add_at state depth outside p s line column) (gather_at state (position state level depth brackets) s g)
   follows Statement h goes within whole =
       let k = idle Statement refl (goes_there Statement level depth brackets s next goes) (λ e. cc) h in
       record { statements = k.statements; name = k.name; draft = k.draft; file = k.file; names = k.names; conclude = k.conclude; item = k.item }
@@ -189,8 +189,8 @@ module _ (before : List ReadStatement) (level depth : ℕ) (brackets : List Brac
         statements = h.statements;
         name = h.name;
         draft = h.draft;
-        file = file_same s (place FileRead level depth brackets) next goes;
-        names = names_early next.mode None g.names there (sym (h.names.early refl)) (h.names.early refl);
+        file = file_same s (position FileRead level depth brackets) next goes;
+        names = names_early next.state None g.names there (sym (h.names.early refl)) (h.names.early refl);
         conclude = h.conclude;
         item = item_left FileStart (λ e. cc) h;
       }
@@ -202,7 +202,7 @@ module _ (before : List ReadStatement) (level depth : ℕ) (brackets : List Brac
         name = h.name;
         draft = h.draft;
         file = h.file;
-        names = names_late next.mode (Some []) g.names there (sym (h.names.opening refl));
+        names = names_late next.state (Some []) g.names there (sym (h.names.opening refl));
         conclude = h.conclude;
         item = item_left SelectionStart (λ e. cc) h;
       }

@@ -6,9 +6,9 @@ use Rattle.cnf_grammar.specs.Laws.{IsFirstFault}
 use Rattle.cnf_grammar.specs.Shapes.{Shape, Lower as Word, Upper, Distinct as Text, Dollar, Number as Numeral, NotEqual, Punct}
 use Rattle.cnf_grammar.specs.Spelling.{IsFront}
 use Rattle.cnf_grammar.specs.Table.{step, run, start}
-use Rattle.cnf_grammar.specs.declared.mode.Mode.{Mode}
-use Rattle.cnf_grammar.specs.declared.mode.Mode.TheVariants.{Statement, NameStart, RoleStart, FormulaStart, LiteralStart, AtomStart, WordRead, TermStart, TermRead}
-use Rattle.cnf_grammar.specs.declared.place.Place.{Place}
+use Rattle.cnf_grammar.specs.declared.state.State.{State}
+use Rattle.cnf_grammar.specs.declared.state.State.TheVariants.{Statement, NameStart, RoleStart, FormulaStart, LiteralStart, AtomStart, WordRead, TermStart, TermRead}
+use Rattle.cnf_grammar.specs.declared.position.Position.{Position}
 use Rattle.cnf_grammar.proofs.Joined.{some_is_front, goes_on, run_step}
 use Rattle.cnf_reader.specs.declared.fault.ReadKind.{ReadKind}
 use Rattle.cnf_reader.specs.declared.fault.ReadKind.TheVariants.{Expected, NotCnf, Equality, Role, BadConclude, TooManyClauses, TooManyLiterals, TooManyVariables, TooDeep}
@@ -57,7 +57,7 @@ module _ (before : List Shape) (t : Shape) (first : IsFirstFault before t) where
       by false = first
   follower_says s = first
 
-  refusal_says : (mode : Mode) (s : Shape) → SaysOfToken (refusal mode s) before t
+  refusal_says : (state : State) (s : Shape) → SaysOfToken (refusal state s) before t
   refusal_says Statement s = statement_says s
   refusal_says FormulaStart s = atom_says s
   refusal_says LiteralStart s = atom_says s
@@ -65,7 +65,7 @@ module _ (before : List Shape) (t : Shape) (first : IsFirstFault before t) where
   refusal_says WordRead s = follower_says s
   refusal_says TermStart s = term_says s
   refusal_says TermRead s = follower_says s
-  refusal_says mode s = first
+  refusal_says state s = first
 
 -- a token past a limit goes on
 module _ (before : List Shape) (t : Shape) (front : IsFront (before ++ t ∷ [])) (kind : ReadKind) where
@@ -77,27 +77,27 @@ module _ (before : List Shape) (t : Shape) (front : IsFront (before ++ t ∷ [])
   variable_says draft (Upper text) e = subst (λ k. SaysOfToken k before t) (by_test (lacks_room draft.variables text) TooManyVariables kind e) front
   variable_says draft s e = absurd cc
 
-  limit_says : (is_full : Bool) (selections : List (Option (List Name))) (mode : Mode) (draft : Draft) (s : Shape) → limit_fault is_full selections mode draft s ≡ Some kind → SaysOfToken kind before t
+  limit_says : (is_full : Bool) (selections : List (Option (List Name))) (state : State) (draft : Draft) (s : Shape) → limit_fault is_full selections state draft s ≡ Some kind → SaysOfToken kind before t
   limit_says is_full selections NameStart draft s e = subst (λ k. SaysOfToken k before t) (by_test (is_full && is_selected selections (name_of s)) TooManyClauses kind e) front
   limit_says is_full selections RoleStart draft s e = role_says s e
   limit_says is_full selections LiteralStart draft s e = subst (λ k. SaysOfToken k before t) (by_test (nat_le 64 (length draft.literals)) TooManyLiterals kind e) front
   limit_says is_full selections TermStart draft s e = variable_says draft s e
-  limit_says is_full selections mode draft s e = absurd cc
+  limit_says is_full selections state draft s e = absurd cc
 
-module _ (is_full : Bool) (selections : List (Option (List Name))) (p : Pending) (s : Shape) (before : List Shape) (runs : run start before ≡ Some p.place) (kind : ReadKind) where
-  by_depth : (deep : Bool) → IsFront (before ++ s ∷ []) → (if deep then Some TooDeep else limit_fault is_full selections p.place.mode p.draft s) ≡ Some kind → SaysOfToken kind before s
+module _ (is_full : Bool) (selections : List (Option (List Name))) (p : Pending) (s : Shape) (before : List Shape) (runs : run start before ≡ Some p.position) (kind : ReadKind) where
+  by_depth : (deep : Bool) → IsFront (before ++ s ∷ []) → (if deep then Some TooDeep else limit_fault is_full selections p.position.state p.draft s) ≡ Some kind → SaysOfToken kind before s
   by_depth true front e = let same : TooDeep ≡ kind = cc in subst (λ k. SaysOfToken k before s) same front
-  by_depth false front e = limit_says before s front kind is_full selections p.place.mode p.draft s e
+  by_depth false front e = limit_says before s front kind is_full selections p.position.state p.draft s e
 
-  by_step : (found : Option Place) → step p.place s ≡ found → fault_before is_full selections p s found ≡ Some kind → SaysOfToken kind before s
+  by_step : (found : Option Position) → step p.position s ≡ found → fault_before is_full selections p s found ≡ Some kind → SaysOfToken kind before s
   by_step None leads e =
-      let same : refusal p.place.mode s ≡ kind = cc in
-      subst (λ k. SaysOfToken k before s) same (refusal_says before s (some_is_front before p.place runs, (goes_on before p.place s runs).0 leads) p.place.mode s)
-  by_step (Some next) leads e = by_depth (is_too_deep next) (some_is_front (before ++ s ∷ []) next (run_step before p.place s runs ∙ leads)) e
+      let same : refusal p.position.state s ≡ kind = cc in
+      subst (λ k. SaysOfToken k before s) same (refusal_says before s (some_is_front before p.position runs, (goes_on before p.position s runs).0 leads) p.position.state s)
+  by_step (Some next) leads e = by_depth (is_too_deep next) (some_is_front (before ++ s ∷ []) next (run_step before p.position s runs ∙ leads)) e
 
-  by_break : (breaks : Bool) → (if breaks then Some BadConclude else fault_before is_full selections p s (step p.place s)) ≡ Some kind → SaysOfToken kind before s
-  by_break true e = let same : BadConclude ≡ kind = cc in subst (λ k. SaysOfToken k before s) same (some_is_front before p.place runs)
-  by_break false e = by_step (step p.place s) refl e
+  by_break : (breaks : Bool) → (if breaks then Some BadConclude else fault_before is_full selections p s (step p.position s)) ≡ Some kind → SaysOfToken kind before s
+  by_break true e = let same : BadConclude ≡ kind = cc in subst (λ k. SaysOfToken k before s) same (some_is_front before p.position runs)
+  by_break false e = by_step (step p.position s) refl e
 
   was_refused : (fault : Option ReadKind) (line column : ℕ) → taken fault p s line column ≡ Err kind → fault ≡ Some kind
   was_refused None line column e = absurd cc
@@ -106,4 +106,4 @@ module _ (is_full : Bool) (selections : List (Option (List Name))) (p : Pending)
   -- what the kind of a fault at a token says of it
   pub token_says : (line column : ℕ) → take is_full selections p s line column ≡ Err kind → SaysOfToken kind before s
   unfolding take
-  token_says line column e = by_break (breaks_item p.place.mode p s) (was_refused (fault_here is_full selections p s) line column e)
+  token_says line column e = by_break (breaks_item p.position.state p s) (was_refused (fault_here is_full selections p s) line column e)

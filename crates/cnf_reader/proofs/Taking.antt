@@ -2,10 +2,10 @@
 use Rattle.std.proofs.Common.{◌≡◌, ℕ, ◌+◌, ◌≤◌, Bool, true, false, true≢false, List, Option, Some, None, Ok, refl, sym, ap, ◌∙◌, arith, if◌then◌else◌}
 use Rattle.std.proofs.lemmas.Bool.Decides.{nat_tests}
 use Rattle.mg_word.specs.declared.clause.Name.{Name}
-use Rattle.cnf_grammar.specs.declared.mode.Mode.{Mode}
-use Rattle.cnf_grammar.specs.declared.mode.Mode.TheVariants.{Info}
-use Rattle.cnf_grammar.specs.declared.place.Place.{Place}
-use Rattle.cnf_grammar.specs.declared.item.ItemPlace.{ItemPlace}
+use Rattle.cnf_grammar.specs.declared.state.State.{State}
+use Rattle.cnf_grammar.specs.declared.state.State.TheVariants.{Info}
+use Rattle.cnf_grammar.specs.declared.position.Position.{Position}
+use Rattle.cnf_grammar.specs.declared.item.ItemState.{ItemState}
 use Rattle.cnf_grammar.specs.Shapes.{Shape}
 use Rattle.cnf_grammar.specs.Table.{step}
 use Rattle.cnf_grammar.specs.Moving.{Moves}
@@ -14,69 +14,69 @@ use Rattle.cnf_reader.specs.declared.fault.ReadKind.{ReadKind}
 use Rattle.cnf_reader.specs.declared.fault.ReadKind.TheVariants.{BadConclude, TooDeep}
 use Rattle.cnf_reader.specs.declared.pending.Pending.{Pending}
 use Rattle.cnf_reader.specs.Faults.{limit_fault, is_too_deep}
-use Rattle.cnf_reader.specs.Statements.{take, taken, fault_here, fault_before, breaks_item, add_at, with_token, place_or, take_info, take_item, is_outside_items, Takes}
+use Rattle.cnf_reader.specs.Statements.{take, taken, fault_here, fault_before, breaks_item, add_at, with_token, position_or, take_info, take_item, is_outside_items, Takes}
 
 -- where the place moved, the table had that place
-pub moved_to : (found : Option Place) (moved : Bool) (old new : Place) → Moves found moved old new → moved ≡ true → found ≡ Some new
+pub moved_to : (found : Option Position) (moved : Bool) (old new : Position) → Moves found moved old new → moved ≡ true → found ≡ Some new
 moved_to None moved old new (stays, is) test = absurd (true≢false (sym test ∙ stays))
 moved_to (Some next) moved old new (goes, is) test = ap Some (sym is)
 
 -- where it did not, the table had none
-pub stayed : (found : Option Place) (moved : Bool) (old new : Place) → Moves found moved old new → moved ≡ false → found ≡ None
+pub stayed : (found : Option Position) (moved : Bool) (old new : Position) → Moves found moved old new → moved ≡ false → found ≡ None
 stayed None moved old new (stays, is) test = refl
 stayed (Some next) moved old new (goes, is) test = absurd (true≢false (sym goes ∙ test))
 
-moved_item : (p : Pending) (next : Place) (item : Option ItemPlace) → take_item (record p { place = next }) item ≡ record (take_item p item) { place = next }
+moved_item : (p : Pending) (next : Position) (item : Option ItemState) → take_item (record p { position = next }) item ≡ record (take_item p item) { position = next }
 moved_item p next None = refl
 moved_item p next (Some item) = refl
 
-moved_info : (is_outside : Bool) (p : Pending) (next : Place) (s : Shape) → take_info is_outside (record p { place = next }) s ≡ record (take_info is_outside p s) { place = next }
+moved_info : (is_outside : Bool) (p : Pending) (next : Position) (s : Shape) → take_info is_outside (record p { position = next }) s ≡ record (take_info is_outside p s) { position = next }
 moved_info true p next s = refl
 moved_info false p next s = moved_item p next (item_step p.words p.item s)
 
 -- what a token adds does not depend on the place
-pub moved : (mode : Mode) (depth : ℕ) (is_outside : Bool) (p : Pending) (next : Place) (s : Shape) (line column : ℕ)
-    → add_at mode depth is_outside (record p { place = next }) s line column ≡ record (add_at mode depth is_outside p s line column) { place = next }
+pub moved : (state : State) (depth : ℕ) (is_outside : Bool) (p : Pending) (next : Position) (s : Shape) (line column : ℕ)
+    → add_at state depth is_outside (record p { position = next }) s line column ≡ record (add_at state depth is_outside p s line column) { position = next }
 moved Info depth is_outside p next s line column = moved_info is_outside p next s
-moved mode depth is_outside p next s line column = refl
+moved state depth is_outside p next s line column = refl
 
 -- a token at which no fault stands is taken
-pub took : (is_full : Bool) (selections : List (Option (List Name))) (p : Pending) (s : Shape) (line column : ℕ) (next : Place) (new : Pending) → breaks_item p.place.mode p s ≡ false → step p.place s ≡ Some next
-    → is_too_deep next ≡ false → limit_fault is_full selections p.place.mode p.draft s ≡ None → new ≡ add_at p.place.mode p.place.depth (is_outside_items p.place s) (record p { place = next }) s line column
+pub took : (is_full : Bool) (selections : List (Option (List Name))) (p : Pending) (s : Shape) (line column : ℕ) (next : Position) (new : Pending) → breaks_item p.position.state p s ≡ false → step p.position s ≡ Some next
+    → is_too_deep next ≡ false → limit_fault is_full selections p.position.state p.draft s ≡ None → new ≡ add_at p.position.state p.position.depth (is_outside_items p.position s) (record p { position = next }) s line column
     → Takes (take is_full selections p s line column) None new
 unfolding take
 took is_full selections p s line column next new whole leads few none is =
     let no_fault : fault_here is_full selections p s ≡ None = rw (whole, leads, few, none) refl in
-    rw (no_fault, leads) (is ∙ moved p.place.mode p.place.depth (is_outside_items p.place s) p next s line column)
+    rw (no_fault, leads) (is ∙ moved p.position.state p.position.depth (is_outside_items p.position s) p next s line column)
 
 -- a token that breaks an item is that fault
-pub broke : (is_full : Bool) (selections : List (Option (List Name))) (p : Pending) (s : Shape) (line column : ℕ) (new : Pending) → breaks_item p.place.mode p s ≡ true → Takes (take is_full selections p s line column) (Some BadConclude) new
+pub broke : (is_full : Bool) (selections : List (Option (List Name))) (p : Pending) (s : Shape) (line column : ℕ) (new : Pending) → breaks_item p.position.state p s ≡ true → Takes (take is_full selections p s line column) (Some BadConclude) new
 unfolding take
 broke is_full selections p s line column new breaks = rw breaks refl
 
 -- brackets within the limit are few enough
-pub few_open : (next : Place) → next.level + next.depth ≤ 100 → is_too_deep next ≡ false
+pub few_open : (next : Position) → next.level + next.depth ≤ 100 → is_too_deep next ≡ false
 few_open next few = grind (arith, nat_tests)
 
 -- what is known of a token that was taken
 pub record Took (is_full : Bool) (selections : List (Option (List Name))) (p : Pending) (s : Shape) (line column : ℕ) (q : Pending) : Type 0 where
-  pub next : Place
-  pub leads : step p.place s ≡ Some next
-  pub whole : breaks_item p.place.mode p s ≡ false
-  pub room : limit_fault is_full selections p.place.mode p.draft s ≡ None
+  pub next : Position
+  pub leads : step p.position s ≡ Some next
+  pub whole : breaks_item p.position.state p s ≡ false
+  pub room : limit_fault is_full selections p.position.state p.draft s ≡ None
   pub is : with_token p s line column next ≡ q
 
-no_limit : (is_full : Bool) (selections : List (Option (List Name))) (p : Pending) (s : Shape) (deep : Bool) → (if deep then Some TooDeep else limit_fault is_full selections p.place.mode p.draft s) ≡ None → limit_fault is_full selections p.place.mode p.draft s ≡ None
+no_limit : (is_full : Bool) (selections : List (Option (List Name))) (p : Pending) (s : Shape) (deep : Bool) → (if deep then Some TooDeep else limit_fault is_full selections p.position.state p.draft s) ≡ None → limit_fault is_full selections p.position.state p.draft s ≡ None
 no_limit is_full selections p s true h = absurd cc
 no_limit is_full selections p s false h = h
 
-none_stands : (is_full : Bool) (selections : List (Option (List Name))) (p : Pending) (s : Shape) (breaks : Bool) (o : Option Place) → (if breaks then Some BadConclude else fault_before is_full selections p s o) ≡ None
-    → (breaks ≡ false) × (limit_fault is_full selections p.place.mode p.draft s ≡ None) × (next : Place) × (o ≡ Some next)
+none_stands : (is_full : Bool) (selections : List (Option (List Name))) (p : Pending) (s : Shape) (breaks : Bool) (o : Option Position) → (if breaks then Some BadConclude else fault_before is_full selections p s o) ≡ None
+    → (breaks ≡ false) × (limit_fault is_full selections p.position.state p.draft s ≡ None) × (next : Position) × (o ≡ Some next)
 none_stands is_full selections p s true o h = absurd cc
 none_stands is_full selections p s false None h = absurd cc
 none_stands is_full selections p s false (Some next) h = (refl, no_limit is_full selections p s (is_too_deep next) h, next, refl)
 
-no_fault_met : (p : Pending) (s : Shape) (line column : ℕ) (q : Pending) (fault : Option ReadKind) → taken fault p s line column ≡ Ok q → (fault ≡ None) × (with_token p s line column (place_or p.place (step p.place s)) ≡ q)
+no_fault_met : (p : Pending) (s : Shape) (line column : ℕ) (q : Pending) (fault : Option ReadKind) → taken fault p s line column ≡ Ok q → (fault ≡ None) × (with_token p s line column (position_or p.position (step p.position s)) ≡ q)
 no_fault_met p s line column q None e = (refl, cc)
 no_fault_met p s line column q (Some kind) e = absurd cc
 
@@ -85,5 +85,5 @@ pub was_taken : (is_full : Bool) (selections : List (Option (List Name))) (p : P
 unfolding take
 was_taken is_full selections p s line column q e =
     let w = no_fault_met p s line column q (fault_here is_full selections p s) e in
-    let n = none_stands is_full selections p s (breaks_item p.place.mode p s) (step p.place s) w.0 in
-    record { next = n.2; leads = n.3; whole = n.0; room = n.1; is = ap (λ o. with_token p s line column (place_or p.place o)) (sym n.3) ∙ w.1 }
+    let n = none_stands is_full selections p s (breaks_item p.position.state p s) (step p.position s) w.0 in
+    record { next = n.2; leads = n.3; whole = n.0; room = n.1; is = ap (λ o. with_token p s line column (position_or p.position o)) (sym n.3) ∙ w.1 }

@@ -1,9 +1,9 @@
 -- The faults that stand at tokens are none of a file's opening.
 use Rattle.std.proofs.Common.{◌≡◌, ℕ, Bool, true, false, List, Option, Some, None, refl, sym, subst, if◌then◌else◌, ◌==◌, ◌&&◌, nat_le, length}
 use Rattle.mg_word.specs.declared.clause.Name.{Name}
-use Rattle.cnf_grammar.specs.declared.mode.Mode.{Mode}
-use Rattle.cnf_grammar.specs.declared.mode.Mode.TheVariants.{Statement, NameStart, RoleStart, FormulaStart, LiteralStart, AtomStart, WordRead, TermStart, TermRead}
-use Rattle.cnf_grammar.specs.declared.place.Place.{Place}
+use Rattle.cnf_grammar.specs.declared.state.State.{State}
+use Rattle.cnf_grammar.specs.declared.state.State.TheVariants.{Statement, NameStart, RoleStart, FormulaStart, LiteralStart, AtomStart, WordRead, TermStart, TermRead}
+use Rattle.cnf_grammar.specs.declared.position.Position.{Position}
 use Rattle.cnf_grammar.specs.Shapes.{Shape, Lower, Upper, Distinct, Dollar, Number as Numeral, NotEqual, Punct}
 use Rattle.cnf_grammar.specs.Table.{step}
 use Rattle.cnf_grammar.specs.Draft.{Draft}
@@ -39,7 +39,7 @@ follower_text NotEqual = refl
 follower_text (Punct byte) = either (byte == 61) Equality Expected refl refl
 follower_text s = refl
 
-refusal_text : (mode : Mode) (s : Shape) → is_of_text (refusal mode s) ≡ true
+refusal_text : (state : State) (s : Shape) → is_of_text (refusal state s) ≡ true
 refusal_text Statement s = statement_text s
 refusal_text FormulaStart s = atom_text s
 refusal_text LiteralStart s = atom_text s
@@ -47,7 +47,7 @@ refusal_text AtomStart s = atom_text s
 refusal_text WordRead s = follower_text s
 refusal_text TermStart s = term_text s
 refusal_text TermRead s = follower_text s
-refusal_text mode s = refl
+refusal_text state s = refl
 
 -- the fault, if one is met, is none of a file's opening
 abbrev IsTextOnly : Option ReadKind → Type 0
@@ -66,19 +66,19 @@ variable_text : (draft : Draft) (s : Shape) → IsTextOnly (variable_fault draft
 variable_text draft (Upper text) = if_text (lacks_room draft.variables text) (Some TooManyVariables) None refl tt
 variable_text draft s = tt
 
-limit_text : (is_full : Bool) (selections : List (Option (List Name))) (mode : Mode) (draft : Draft) (s : Shape) → IsTextOnly (limit_fault is_full selections mode draft s)
+limit_text : (is_full : Bool) (selections : List (Option (List Name))) (state : State) (draft : Draft) (s : Shape) → IsTextOnly (limit_fault is_full selections state draft s)
 limit_text is_full selections NameStart draft s = if_text (is_full && is_selected selections (name_of s)) (Some TooManyClauses) None refl tt
 limit_text is_full selections RoleStart draft s = role_text s
 limit_text is_full selections LiteralStart draft s = if_text (nat_le 64 (length draft.literals)) (Some TooManyLiterals) None refl tt
 limit_text is_full selections TermStart draft s = variable_text draft s
-limit_text is_full selections mode draft s = tt
+limit_text is_full selections state draft s = tt
 
-before_text : (is_full : Bool) (selections : List (Option (List Name))) (p : Pending) (s : Shape) (next : Option Place) → IsTextOnly (fault_before is_full selections p s next)
-before_text is_full selections p s None = refusal_text p.place.mode s
-before_text is_full selections p s (Some next) = if_text (is_too_deep next) (Some TooDeep) (limit_fault is_full selections p.place.mode p.draft s) refl (limit_text is_full selections p.place.mode p.draft s)
+before_text : (is_full : Bool) (selections : List (Option (List Name))) (p : Pending) (s : Shape) (next : Option Position) → IsTextOnly (fault_before is_full selections p s next)
+before_text is_full selections p s None = refusal_text p.position.state s
+before_text is_full selections p s (Some next) = if_text (is_too_deep next) (Some TooDeep) (limit_fault is_full selections p.position.state p.draft s) refl (limit_text is_full selections p.position.state p.draft s)
 
 here_text : (is_full : Bool) (selections : List (Option (List Name))) (p : Pending) (s : Shape) → IsTextOnly (fault_here is_full selections p s)
-here_text is_full selections p s = if_text (breaks_item p.place.mode p s) (Some BadConclude) (fault_before is_full selections p s (step p.place s)) refl (before_text is_full selections p s (step p.place s))
+here_text is_full selections p s = if_text (breaks_item p.position.state p s) (Some BadConclude) (fault_before is_full selections p s (step p.position s)) refl (before_text is_full selections p s (step p.position s))
 
 taken_text : (fault : Option ReadKind) (p : Pending) (s : Shape) (line column : ℕ) (kind : ReadKind) (new : Pending) → IsTextOnly fault → Takes (taken fault p s line column) (Some kind) new → is_of_text kind ≡ true
 taken_text None p s line column kind new only takes = absurd takes

@@ -2,7 +2,6 @@
 use Rattle.std.specs.Prelude.{◌≡◌, ℕ, ◌+◌, ◌<◌, ◌≤◌, Bool, false, List, [], ◌∷◌, ◌++◌, length, Option, Err}
 use Rattle.mg_outside.specs.Reading.{Table}
 use Rattle.tptp_lexer.specs.Tokens.{start_cursor}
-use Rattle.cnf_grammar.specs.Table.{start}
 use Rattle.cnf_reader.specs.declared.fault.ReadFault.{ReadFault}
 use Rattle.cnf_reader.specs.declared.fault.ReadFault.TheVariants.{At, NoMemory}
 use Rattle.cnf_reader.specs.declared.fault.ReadKind.{ReadKind}
@@ -20,7 +19,7 @@ FaultIs wanted name at_line at_column what NoMemory = Unit {0}
 
 -- a file that was just opened
 abbrev pub new_file : List ℕ → ℕ → List ℕ → FileData
-new_file name number bytes = record { name = name; number = number; bytes = bytes; cursor = start_cursor; place = start }
+new_file name number bytes = record { name = name; number = number; bytes = bytes; cursor = start_cursor }
 
 -- the file is taken in
 abbrev pub IsAdmitted : Kept → List ℕ → List ℕ → Kept → FileData → Type 0

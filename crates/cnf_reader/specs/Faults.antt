@@ -5,9 +5,9 @@ use Rattle.std.specs.Str.{bytes_eq}
 use Rattle.mg_word.specs.declared.symbol.Kind.{Kind}
 use Rattle.mg_word.specs.declared.symbol.Kind.TheVariants.{Word as word_name, Integer as number_name, Distinct as text_name}
 use Rattle.mg_word.specs.declared.clause.Name.{Name}
-use Rattle.cnf_grammar.specs.declared.mode.Mode.{Mode}
-use Rattle.cnf_grammar.specs.declared.mode.Mode.TheVariants.{Statement, NameStart, RoleStart, FormulaStart, LiteralStart, AtomStart, WordRead, TermStart, TermRead}
-use Rattle.cnf_grammar.specs.declared.place.Place.{Place}
+use Rattle.cnf_grammar.specs.declared.state.State.{State}
+use Rattle.cnf_grammar.specs.declared.state.State.TheVariants.{Statement, NameStart, RoleStart, FormulaStart, LiteralStart, AtomStart, WordRead, TermStart, TermRead}
+use Rattle.cnf_grammar.specs.declared.position.Position.{Position}
 use Rattle.cnf_grammar.specs.Shapes.{Shape, Lower, Upper, Quoted, Distinct, Dollar, Number as Numeral, NotEqual, Punct, is_mark, comma, right_square}
 use Rattle.cnf_grammar.specs.Meaning.{unquoted, ClauseLiteral, always, never, signed}
 use Rattle.cnf_grammar.specs.Draft.{Draft, has_text}
@@ -92,7 +92,7 @@ no_follower (Punct byte) = if byte == 61 then Equality else Expected
 no_follower _ = Expected
 
 -- what is wrong with a token that the grammar does not have here
-abbrev pub refusal : Mode → Shape → ReadKind
+abbrev pub refusal : State → Shape → ReadKind
 refusal Statement s = no_statement s
 refusal FormulaStart s = no_atom s
 refusal LiteralStart s = no_atom s
@@ -126,7 +126,7 @@ variable_fault draft (Upper text) = if lacks_room draft.variables text then Some
 variable_fault draft _ = None
 
 -- the limit that a token passes which the grammar has here; `is_full`: as many clauses are kept as may be
-abbrev pub limit_fault : Bool → List (Option (List Name)) → Mode → Draft → Shape → Option ReadKind
+abbrev pub limit_fault : Bool → List (Option (List Name)) → State → Draft → Shape → Option ReadKind
 limit_fault is_full selections NameStart draft s = name_fault is_full selections s
 limit_fault is_full selections RoleStart draft s = role_fault s
 limit_fault is_full selections LiteralStart draft s = if nat_le most_literals (length draft.literals) then Some TooManyLiterals else None
@@ -134,9 +134,9 @@ limit_fault is_full selections TermStart draft s = variable_fault draft s
 limit_fault is_full selections _ draft s = None
 
 -- more brackets are open than a formula may have
-abbrev pub is_too_deep : Place → Bool
+abbrev pub is_too_deep : Position → Bool
 is_too_deep p = nat_lt most_brackets (p.level + p.depth)
 
 -- a comma or the end of the info, outside inner brackets
-abbrev pub ends_item : Place → Shape → Bool
+abbrev pub ends_item : Position → Shape → Bool
 ends_item p s = is_mark comma s || is_mark right_square s

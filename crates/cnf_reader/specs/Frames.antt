@@ -4,19 +4,18 @@ use Rattle.mg_word.specs.declared.clause.Name.{Name}
 use Rattle.mg_outside.specs.Reading.{Table}
 use Rattle.tptp_lexer.specs.Tokens.{left_of, IsAt}
 use Rattle.tptp_lexer.specs.declared.cursor.Cursor.{Cursor}
-use Rattle.cnf_grammar.specs.declared.place.Place.{Place}
 use Rattle.cnf_reader.specs.declared.fault.ReadFault.{ReadFault}
 use Rattle.cnf_reader.specs.declared.kept.Kept.{Kept}
 use Rattle.cnf_reader.specs.declared.pending.Asked.{Asked}
-use Rattle.cnf_reader.specs.declared.files.Step.{Step}
-use Rattle.cnf_reader.specs.declared.files.Step.TheVariants.{Ended, Clause, Include, Fault}
+use Rattle.cnf_reader.specs.declared.part.Part.{Part}
+use Rattle.cnf_reader.specs.declared.part.Part.TheVariants.{Ended, Clause, Include, Fault}
 use Rattle.cnf_reader.specs.declared.files.OpenFile.TheInside.{Inside}
 use Rattle.cnf_reader.specs.Led.{count_left, Spends}
 use Rattle.cnf_reader.specs.Sound.{IsSoundKept, AsksByName}
 use Rattle.cnf_reader.specs.Statements.{fresh}
 use Rattle.cnf_reader.specs.Reading.{Source, World, most_bytes, most_includes, and_then, fault_at, include_in, reading_of, NeverFails, AreTold}
 use Rattle.cnf_reader.specs.Openings.{Finding, FindsTwo}
-use Rattle.cnf_reader.specs.Parts.{is_of_text, Lower, reads_on, source_named, IsBetween}
+use Rattle.cnf_reader.specs.Parts.{is_of_text, Lower, reads_on, source_named}
 
 -- a file that is open
 pub record FileData : Type 0 where
@@ -24,16 +23,14 @@ pub record FileData : Type 0 where
   pub number : ℕ
   pub bytes : List ℕ
   pub cursor : Cursor
-  pub place : Place
 
 abbrev pub file_seen : Inside → FileData
-file_seen f = record { name = string_bytes f.name; number = f.number; bytes = f.bytes.items; cursor = f.cursor; place = f.place }
+file_seen f = record { name = string_bytes f.name; number = f.number; bytes = f.bytes.items; cursor = f.cursor }
 
 -- what holds of each file that is open
 pub record IsFileOpen (f : Inside) : Type 0 where
   pub small : length f.bytes.items ≤ 16777216
   pub at : IsAt f.bytes.items f.cursor
-  pub between : IsBetween f.place
 
 -- the file under these selections
 abbrev pub source_in : List (Option (List Name)) → FileData → Source
@@ -41,14 +38,14 @@ source_in selections f = source_named f.number f.bytes selections f.name
 
 -- what the rest of the file gives
 abbrev pub rest_of : Lower → List (Option (List Name)) → Kept → FileData → Result Kept ReadFault
-rest_of lower selections kept f = reads_on lower (source_in selections f) (fresh f.place) kept (left_of f.bytes f.cursor)
+rest_of lower selections kept f = reads_on lower (source_in selections f) fresh kept (left_of f.bytes f.cursor)
 
 -- the two are one file
 abbrev pub IsSame : FileData → FileData → Type 0
 IsSame f g = (g.name ≡ f.name) × (g.number ≡ f.number) × (g.bytes ≡ f.bytes)
 
 -- how the reading of the file goes on, whatever its includes are
-abbrev pub Advances : List (Option (List Name)) → Kept → FileData → Step → Kept → FileData → Type 0
+abbrev pub Advances : List (Option (List Name)) → Kept → FileData → Part → Kept → FileData → Type 0
 Advances selections kept f Ended after g = (lower : Lower) → rest_of lower selections kept f ≡ Ok after
 Advances selections kept f Clause after g = IsSame f g × ((lower : Lower) → rest_of lower selections kept f ≡ rest_of lower selections after g)
 Advances selections kept f (Include asked) after g =
@@ -63,13 +60,6 @@ left_in f = count_left f.bytes f.cursor
 abbrev pub left_in_all : List FileData → ℕ
 left_in_all [] = 0
 left_in_all (f ∷ outer) = left_in f + left_in_all outer
-
--- the same as of a part, of what was read of a file
-abbrev pub IsPaidStep : Step → Kept → ℕ → Kept → ℕ → Type 0
-IsPaidStep Ended kept all after left = after ≡ kept
-IsPaidStep Clause kept all after left = Spends kept all after left
-IsPaidStep (Include asked) kept all after left = Spends kept all after left × AsksByName 16777216 asked
-IsPaidStep (Fault kind line column) kept all after left = Unit {0}
 
 -- what is kept of files that are open has its facts: each new symbol was paid by a token, and each file is numbered
 pub record IsSoundRun (kept : Kept) (files : List FileData) : Type 0 where

@@ -2,10 +2,10 @@
 use Rattle.std.specs.Prelude.{◌≡◌, ℕ, zero, suc, ◌+◌, ◌≤◌, Bool, false, ◌&&◌, List, [], ◌∷◌, length, map, Option, All, IsTrue}
 use Rattle.std.specs.List.{list_all}
 use Rattle.mg_word.specs.declared.clause.Name.{Name}
-use Rattle.cnf_grammar.specs.declared.mode.Mode.{Mode}
-use Rattle.cnf_grammar.specs.declared.mode.Mode.TheVariants.{Statement, ClauseWord, NameStart, LiteralStart, WordRead, TermStart, TermRead, FormulaClosed, SourceStart, Source, InfoStart, Info, InfoClosed, ClauseClosed, IncludeWord, FileStart, FileRead, SelectionStart, SelectionOpen, SelectedStart, SelectedRead, SelectionClosed, IncludeClosed}
-use Rattle.cnf_grammar.specs.declared.item.ItemPlace.{ItemPlace}
-use Rattle.cnf_grammar.specs.declared.item.ItemPlace.TheVariants.{Start as item_start, WordRead as word_read, Open as item_open, ListOpen as list_open, NumberRead as number_read, NumberStart as number_start, ListClosed as list_closed, Closed as item_closed, Other as other_item}
+use Rattle.cnf_grammar.specs.declared.state.State.{State}
+use Rattle.cnf_grammar.specs.declared.state.State.TheVariants.{Statement, ClauseWord, NameStart, LiteralStart, WordRead, TermStart, TermRead, FormulaClosed, SourceStart, Source, InfoStart, Info, InfoClosed, ClauseClosed, IncludeWord, FileStart, FileRead, SelectionStart, SelectionOpen, SelectedStart, SelectedRead, SelectionClosed, IncludeClosed}
+use Rattle.cnf_grammar.specs.declared.item.ItemState.{ItemState}
+use Rattle.cnf_grammar.specs.declared.item.ItemState.TheVariants.{Start as item_start, WordRead as word_read, Open as item_open, ListOpen as list_open, NumberRead as number_read, NumberStart as number_start, ListClosed as list_closed, Closed as item_closed, Other as other_item}
 use Rattle.cnf_grammar.specs.Meaning.{Item}
 use Rattle.cnf_grammar.specs.Conclude.{are_conclusions_above}
 use Rattle.cnf_grammar.specs.Draft.{Draft}
@@ -45,7 +45,7 @@ HasRoomBehind zero d = HasAtMost 64 d
 HasRoomBehind (suc depth) d = length d.literals ≤ 63
 
 -- there is room for the literals that come before the next test of their number, where the next token is read with this mode
-abbrev pub HasRoom : Mode → ℕ → Draft → Type 0
+abbrev pub HasRoom : State → ℕ → Draft → Type 0
 HasRoom LiteralStart depth d = d.atom ≡ []
 HasRoom WordRead depth d = length d.literals ≤ 63
 HasRoom TermStart depth d = length d.literals ≤ 63
@@ -77,7 +77,7 @@ abbrev pub RiseTo : List Bool → List ℕ → ℕ → Type 0
 RiseTo words chosen last = IsTrue (are_conclusions_above words 0 chosen) × (last_of 0 chosen ≡ last)
 
 -- the same of the item under way, where it gives conclusions
-abbrev pub ItemRises : List Bool → List ℕ → ItemPlace → Type 0
+abbrev pub ItemRises : List Bool → List ℕ → ItemState → Type 0
 ItemRises words chosen item_start = RiseTo words chosen 0
 ItemRises words chosen word_read = RiseTo words chosen 0
 ItemRises words chosen item_open = RiseTo words chosen 0
@@ -93,7 +93,7 @@ abbrev pub InfoRises : Pending → Type 0
 InfoRises p = (p.words ≡ map has_word p.draft.literals) × AreChosen p × ItemRises p.words p.chosen p.item
 
 -- what holds of the items of the info where the next token is read with this mode
-abbrev pub HasItems : Mode → Pending → Type 0
+abbrev pub HasItems : State → Pending → Type 0
 HasItems Info p = InfoRises p
 HasItems InfoClosed p = AreChosen p
 HasItems ClauseClosed p = AreChosen p
@@ -104,7 +104,7 @@ abbrev pub IsAllowed : Bool → List (Option (List Name)) → Pending → Type 0
 IsAllowed is_full selections p = (is_full && is_selected selections p.name) ≡ false
 
 -- the same behind the clause's name
-abbrev pub IsNamed : Bool → List (Option (List Name)) → Mode → Pending → Type 0
+abbrev pub IsNamed : Bool → List (Option (List Name)) → State → Pending → Type 0
 IsNamed is_full selections Statement p = Unit {0}
 IsNamed is_full selections ClauseWord p = Unit {0}
 IsNamed is_full selections NameStart p = Unit {0}
@@ -120,11 +120,11 @@ IsNamed is_full selections IncludeClosed p = Unit {0}
 IsNamed is_full selections _ p = IsAllowed is_full selections p
 
 -- what holds of the statement where the next token is read with this mode and so many brackets of arguments open
-abbrev pub IsGoing : Bool → List (Option (List Name)) → Mode → ℕ → Pending → Type 0
-IsGoing is_full selections mode depth p = HasRoom mode depth p.draft × HasItems mode p × IsNamed is_full selections mode p
+abbrev pub IsGoing : Bool → List (Option (List Name)) → State → ℕ → Pending → Type 0
+IsGoing is_full selections state depth p = HasRoom state depth p.draft × HasItems state p × IsNamed is_full selections state p
 
 -- what holds of a statement behind so many of its tokens
 pub record IsWithin (is_full : Bool) (selections : List (Option (List Name))) (taken : ℕ) (p : Pending) : Type 0 where
   pub spare : IsSpare taken p.draft
   pub words : length p.words ≤ most_literals
-  pub going : IsGoing is_full selections p.place.mode p.place.depth p
+  pub going : IsGoing is_full selections p.position.state p.position.depth p

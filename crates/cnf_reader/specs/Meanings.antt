@@ -1,8 +1,8 @@
 -- What a statement whose tokens were taken to its dot means, by the grammar.
 use Rattle.std.specs.Prelude.{◌≡◌, ℕ, Bool, true, false, List, [], ◌∷◌, Option, Some, None, Ok, map}
 use Rattle.mg_word.specs.declared.clause.Name.{Name}
-use Rattle.cnf_grammar.specs.declared.mode.Mode.{Mode}
-use Rattle.cnf_grammar.specs.declared.mode.Mode.TheVariants.{ClauseClosed, IncludeClosed}
+use Rattle.cnf_grammar.specs.declared.state.State.{State}
+use Rattle.cnf_grammar.specs.declared.state.State.TheVariants.{ClauseClosed, IncludeClosed}
 use Rattle.cnf_grammar.specs.Shapes.{Shape}
 use Rattle.cnf_grammar.specs.Trees.{Statement}
 use Rattle.cnf_grammar.specs.Spelling.{spell}
@@ -22,24 +22,24 @@ abbrev pub shapes_of : List Written → List Shape
 shapes_of tokens = map (λ t. t.shape) tokens
 
 -- whether the token that is read in this mode ends a statement
-abbrev pub ends_statement : Mode → Bool
+abbrev pub ends_statement : State → Bool
 ends_statement ClauseClosed = true
 ends_statement IncludeClosed = true
 ends_statement _ = false
 
 -- the tokens are taken without a fault; the last of them, read in this mode, is the first to end the statement, which then is `whole`
-abbrev pub TakesStatement : Bool → List (Option (List Name)) → Pending → List Written → Mode → Pending → Type 0
-TakesStatement is_full selections p [] mode whole = ⊥
-TakesStatement is_full selections p (t ∷ []) mode whole =
-    (mode ≡ p.place.mode) × (ends_statement mode ≡ true) × (take is_full selections p t.shape t.line t.column ≡ Ok whole)
-TakesStatement is_full selections p (t ∷ u ∷ more) mode whole =
-    (ends_statement p.place.mode ≡ false) × (next : Pending) × (take is_full selections p t.shape t.line t.column ≡ Ok next) × TakesStatement is_full selections next (u ∷ more) mode whole
+abbrev pub TakesStatement : Bool → List (Option (List Name)) → Pending → List Written → State → Pending → Type 0
+TakesStatement is_full selections p [] state whole = ⊥
+TakesStatement is_full selections p (t ∷ []) state whole =
+    (state ≡ p.position.state) × (ends_statement state ≡ true) × (take is_full selections p t.shape t.line t.column ≡ Ok whole)
+TakesStatement is_full selections p (t ∷ u ∷ more) state whole =
+    (ends_statement p.position.state ≡ false) × (next : Pending) × (take is_full selections p t.shape t.line t.column ≡ Ok next) × TakesStatement is_full selections next (u ∷ more) state whole
 
 -- the tokens are taken without a fault, none of them ends a statement, and they lead to `q`
 abbrev pub TakesFront : Bool → List (Option (List Name)) → Pending → List Written → Pending → Type 0
 TakesFront is_full selections p [] q = p ≡ q
 TakesFront is_full selections p (t ∷ more) q =
-    (ends_statement p.place.mode ≡ false) × (next : Pending) × (take is_full selections p t.shape t.line t.column ≡ Ok next) × TakesFront is_full selections next more q
+    (ends_statement p.position.state ≡ false) × (next : Pending) × (take is_full selections p t.shape t.line t.column ≡ Ok next) × TakesFront is_full selections next more q
 
 -- a name, as the grammar has it
 abbrev pub name_seen : Name → Named
@@ -58,11 +58,11 @@ pub record HoldsClause (p : Pending) (c : ReadClause) : Type 0 where
   pub conclude : p.conclude ≡ c.conclude
 
 -- the statement, which ended in this mode, holds what a statement says
-abbrev pub Holds : Mode → Pending → ReadStatement → Type 0
+abbrev pub Holds : State → Pending → ReadStatement → Type 0
 Holds ClauseClosed p says = (c : ReadClause) × (says ≡ read_clause c) × HoldsClause p c
 Holds IncludeClosed p says = says ≡ read_include p.asked.file (names_seen p.asked.names)
 Holds _ p says = ⊥
 
 -- one statement spells the tokens, and what it means is held
-abbrev pub HoldsItsMeaning : List Written → Mode → Pending → Type 0
-HoldsItsMeaning tokens mode p = (t : Statement) × (spell (t ∷ []) ≡ shapes_of tokens) × Holds mode p (meaning t)
+abbrev pub HoldsItsMeaning : List Written → State → Pending → Type 0
+HoldsItsMeaning tokens state p = (t : Statement) × (spell (t ∷ []) ≡ shapes_of tokens) × Holds state p (meaning t)

@@ -3,8 +3,7 @@ use Rattle.std.specs.Prelude.{◌≡◌, ℕ, ◌+◌, ◌≤◌, Bool, true, fa
 use Rattle.mg_word.specs.declared.clause.Name.{Name}
 use Rattle.tptp_lexer.specs.Tokens.{Lexed}
 use Rattle.tptp_lexer.specs.Spots.{spot_at}
-use Rattle.cnf_grammar.specs.declared.mode.Mode.TheVariants.{Statement}
-use Rattle.cnf_grammar.specs.declared.place.Place.{Place}
+use Rattle.cnf_grammar.specs.declared.position.Position.{Position}
 use Rattle.cnf_grammar.specs.Table.{is_end}
 use Rattle.cnf_reader.specs.declared.fault.ReadKind.{ReadKind}
 use Rattle.cnf_reader.specs.declared.fault.ReadKind.TheVariants.{Expected, Files, ProblemAbsent, IncludeAbsent, TooLong}
@@ -30,13 +29,8 @@ abbrev pub reads_on : Lower → Source → Pending → Kept → Lexed → Result
 reads_on lower source pending kept left = read_tokens lower source pending kept left.tokens left.fault
 
 -- not too many brackets are open at the place
-abbrev pub IsOpen : Place → Type 0
+abbrev pub IsOpen : Position → Type 0
 IsOpen p = p.level + p.depth ≤ 100
-
--- it is a place between statements
-pub record IsBetween (p : Place) : Type 0 where
-  pub few : IsOpen p
-  pub mode : p.mode ≡ Statement
 
 -- no include and no file is new
 pub record Stays (kept after : Kept) : Type 0 where
@@ -56,25 +50,25 @@ is_of_text kind = true
 abbrev pub PartIs : ℕ → List ℕ → List (Option (List Name)) → Pending → Kept → Lexed → Part → Kept → Lexed → Type 0
 PartIs number bytes selections p kept left Ended after more =
     (lower : Lower) (name : List ℕ) → reads_on lower (source_named number bytes selections name) p kept left ≡ Ok after
-PartIs number bytes selections p kept left (Clause next) after more =
-    IsBetween next × ((lower : Lower) (name : List ℕ) → reads_on lower (source_named number bytes selections name) p kept left ≡ reads_on lower (source_named number bytes selections name) (fresh next) after more)
-PartIs number bytes selections p kept left (Include next asked) after more =
-    IsBetween next × ((lower : Lower) (name : List ℕ) → reads_on lower (source_named number bytes selections name) p kept left
-    ≡ and_then (lower asked after) (λ behind. reads_on lower (source_named number bytes selections name) (fresh next) behind more))
+PartIs number bytes selections p kept left Clause after more =
+    (lower : Lower) (name : List ℕ) → reads_on lower (source_named number bytes selections name) p kept left ≡ reads_on lower (source_named number bytes selections name) fresh after more
+PartIs number bytes selections p kept left (Include asked) after more =
+    (lower : Lower) (name : List ℕ) → reads_on lower (source_named number bytes selections name) p kept left
+    ≡ and_then (lower asked after) (λ behind. reads_on lower (source_named number bytes selections name) fresh behind more)
 PartIs number bytes selections p kept left (Fault kind line column) after more =
     (is_of_text kind ≡ true) × ((lower : Lower) (name : List ℕ) → reads_on lower (source_named number bytes selections name) p kept left ≡ fault_at kind name line column)
 
 -- the same from the start of a statement
-abbrev pub IsPart : ℕ → List ℕ → List (Option (List Name)) → Place → Kept → Lexed → Part → Kept → Lexed → Type 0
-IsPart number bytes selections place kept left part after more = PartIs number bytes selections (fresh place) kept left part after more
+abbrev pub IsPart : ℕ → List ℕ → List (Option (List Name)) → Kept → Lexed → Part → Kept → Lexed → Type 0
+IsPart number bytes selections kept left part after more = PartIs number bytes selections fresh kept left part after more
 
 -- what the end of the tokens is at a place
-abbrev pub EndIs : Part → List ℕ → Place → Type 0
+abbrev pub EndIs : Part → List ℕ → Position → Type 0
 EndIs Ended bytes p = is_end p ≡ true
-EndIs (Clause next) bytes p = ⊥
-EndIs (Include next asked) bytes p = ⊥
+EndIs Clause bytes p = ⊥
+EndIs (Include asked) bytes p = ⊥
 EndIs (Fault kind line column) bytes p =
     (is_end p ≡ false) × (kind ≡ Expected) × (line ≡ (spot_at bytes (length bytes)).line) × (column ≡ (spot_at bytes (length bytes)).column)
 
-abbrev pub IsEnd : List ℕ → Place → Part → Type 0
+abbrev pub IsEnd : List ℕ → Position → Part → Type 0
 IsEnd bytes p part = EndIs part bytes p

@@ -9,8 +9,8 @@ use Rattle.tptp_lexer.specs.Tokens.{tokens_of}
 use Rattle.tptp_lexer.specs.Spots.{spot_at}
 use Rattle.tptp_lexer.specs.declared.token.Token.{Token}
 use Rattle.tptp_lexer.specs.declared.token.LexFault.{LexFault}
-use Rattle.cnf_grammar.specs.declared.mode.Mode.{Mode}
-use Rattle.cnf_grammar.specs.declared.mode.Mode.TheVariants.{ClauseClosed, IncludeClosed}
+use Rattle.cnf_grammar.specs.declared.state.State.{State}
+use Rattle.cnf_grammar.specs.declared.state.State.TheVariants.{ClauseClosed, IncludeClosed}
 use Rattle.cnf_grammar.specs.Shapes.{Shape, shape_of}
 use Rattle.cnf_grammar.specs.Table.{start, is_end}
 use Rattle.cnf_reader.specs.declared.fault.ReadKind.{ReadKind}
@@ -82,32 +82,32 @@ fault_at kind file line column = Err (At kind file line column [])
 
 -- behind a token that was read with this mode: a dot ends a clause, which is kept, or an include, which is followed. `lower` reads the file of an
 -- include, and `rest` the rest of this one
-abbrev pub behind : (Asked → Kept → Result Kept ReadFault) → Source → Kept → Mode → Pending → (Pending → Kept → Result Kept ReadFault) → Result Kept ReadFault
-behind lower source kept ClauseClosed p rest = rest (fresh p.place) (keep source.selections kept source.number p)
-behind lower source kept IncludeClosed p rest = and_then (lower p.asked kept) (λ after. rest (fresh p.place) after)
-behind lower source kept mode p rest = rest p kept
+abbrev pub behind : (Asked → Kept → Result Kept ReadFault) → Source → Kept → State → Pending → (Pending → Kept → Result Kept ReadFault) → Result Kept ReadFault
+behind lower source kept ClauseClosed p rest = rest fresh (keep source.selections kept source.number p)
+behind lower source kept IncludeClosed p rest = and_then (lower p.asked kept) (λ after. rest fresh after)
+behind lower source kept state p rest = rest p kept
 
 -- goes on behind a token of this place, if no fault stands there
-abbrev pub go_on : (Asked → Kept → Result Kept ReadFault) → Source → Kept → Mode → Token → Result Pending ReadKind → (Pending → Kept → Result Kept ReadFault) → Result Kept ReadFault
-go_on lower source kept mode token (Err kind) rest = fault_at kind source.name token.line token.column
-go_on lower source kept mode token (Ok p) rest = behind lower source kept mode p rest
+abbrev pub go_on : (Asked → Kept → Result Kept ReadFault) → Source → Kept → State → Token → Result Pending ReadKind → (Pending → Kept → Result Kept ReadFault) → Result Kept ReadFault
+go_on lower source kept state token (Err kind) rest = fault_at kind source.name token.line token.column
+go_on lower source kept state token (Ok p) rest = behind lower source kept state p rest
 
 -- at the end of the tokens: a lexical fault, or the end of the file, where no statement is under way
 abbrev pub at_end : Source → Pending → Kept → Option LexFault → Result Kept ReadFault
 at_end source p kept (Some fault) = fault_at (Lex fault.kind) source.name fault.line fault.column
 at_end source p kept None =
-    if is_end p.place then Ok kept else fault_at Expected source.name (spot_at source.bytes (length source.bytes)).line (spot_at source.bytes (length source.bytes)).column
+    if is_end p.position then Ok kept else fault_at Expected source.name (spot_at source.bytes (length source.bytes)).line (spot_at source.bytes (length source.bytes)).column
 
 -- what is kept once these tokens of a file are read, or the first fault
 unfoldable pub read_tokens : (Asked → Kept → Result Kept ReadFault) → Source → Pending → Kept → List Token → Option LexFault → Result Kept ReadFault
 read_tokens lower source p kept [] fault = at_end source p kept fault
 read_tokens lower source p kept (token ∷ tokens) fault =
-    go_on lower source kept p.place.mode token (take (is_full kept) source.selections p (shape_in source.bytes token) token.line token.column)
+    go_on lower source kept p.position.state token (take (is_full kept) source.selections p (shape_in source.bytes token) token.line token.column)
     (λ next after. read_tokens lower source next after tokens fault)
 
 -- the same of a whole file
 abbrev pub read_source : (Asked → Kept → Result Kept ReadFault) → Source → Kept → Result Kept ReadFault
-read_source lower source kept = read_tokens lower source (fresh start) kept (tokens_of source.bytes).tokens (tokens_of source.bytes).fault
+read_source lower source kept = read_tokens lower source fresh kept (tokens_of source.bytes).tokens (tokens_of source.bytes).fault
 
 -- the file that was opened under a name
 abbrev pub source_of : List ℕ → List ℕ → List (Option (List Name)) → Kept → Source

@@ -3,16 +3,16 @@ use Rattle.std.specs.Prelude.{◌≡◌, ℕ, Bool, true, false, not, ◌&&◌, 
 use Rattle.mg_word.specs.declared.symbol.Kind.TheVariants.{Word}
 use Rattle.mg_word.specs.declared.clause.Name.{Name}
 use Rattle.cnf_grammar.specs.declared.brackets.Bracket.{Bracket}
-use Rattle.cnf_grammar.specs.declared.mode.Mode.{Mode}
-use Rattle.cnf_grammar.specs.declared.mode.Mode.TheVariants.{Statement, NameStart, InfoStart, Info, FileStart, SelectionStart, SelectionOpen, SelectedStart}
-use Rattle.cnf_grammar.specs.declared.place.Place.{Place}
+use Rattle.cnf_grammar.specs.declared.state.State.{State}
+use Rattle.cnf_grammar.specs.declared.state.State.TheVariants.{Statement, NameStart, InfoStart, Info, FileStart, SelectionStart, SelectionOpen, SelectedStart}
+use Rattle.cnf_grammar.specs.declared.position.Position.{Position}
 use Rattle.cnf_grammar.specs.Shapes.{Shape, Lower, Quoted, is_name}
 use Rattle.cnf_grammar.specs.Meaning.{unquoted}
-use Rattle.cnf_grammar.specs.Table.{step}
+use Rattle.cnf_grammar.specs.Table.{step, start}
 use Rattle.cnf_grammar.specs.Draft.{empty_draft, collect_at}
 use Rattle.cnf_grammar.specs.Items.{item_step}
-use Rattle.cnf_grammar.specs.declared.item.ItemPlace.TheVariants.{Start as item_start, Closed as item_closed, NumberRead as number_read}
-use Rattle.cnf_grammar.specs.declared.item.ItemPlace.{ItemPlace}
+use Rattle.cnf_grammar.specs.declared.item.ItemState.TheVariants.{Start as item_start, Closed as item_closed, NumberRead as number_read}
+use Rattle.cnf_grammar.specs.declared.item.ItemState.{ItemState}
 use Rattle.cnf_reader.specs.declared.fault.ReadKind.{ReadKind}
 use Rattle.cnf_reader.specs.declared.fault.ReadKind.TheVariants.{BadConclude, TooDeep}
 use Rattle.cnf_reader.specs.declared.pending.Asked.{Asked}
@@ -24,9 +24,9 @@ abbrev pub nothing_asked : Asked
 nothing_asked = record { file = []; line = 0; column = 0; names = None }
 
 -- no token of the statement was read
-abbrev pub fresh : Place → Pending
-fresh place = record {
-  place = place;
+abbrev pub fresh : Pending
+fresh = record {
+  position = start;
   line = 0;
   column = 0;
   name = record { kind = Word; text = [] };
@@ -44,40 +44,40 @@ is_outermost [] = true
 is_outermost (bracket ∷ outer) = false
 
 -- whether the token stands between the items of the info, or ends them
-abbrev pub is_outside_items : Place → Shape → Bool
+abbrev pub is_outside_items : Position → Shape → Bool
 is_outside_items p s = is_outermost p.brackets && ends_item p s
 
 -- the item is broken where no end of it can be right
-abbrev pub is_broken : Option ItemPlace → Bool
+abbrev pub is_broken : Option ItemState → Bool
 is_broken None = true
-is_broken (Some place) = false
+is_broken (Some position) = false
 
 -- whether the token breaks a conclude item
-abbrev pub breaks_item : Mode → Pending → Shape → Bool
-breaks_item Info p s = not (is_outside_items p.place s) && is_broken (item_step p.words p.item s)
+abbrev pub breaks_item : State → Pending → Shape → Bool
+breaks_item Info p s = not (is_outside_items p.position s) && is_broken (item_step p.words p.item s)
 breaks_item _ p s = false
 
 -- the fault at a token that leads to this place, if to any
-abbrev pub fault_before : Bool → List (Option (List Name)) → Pending → Shape → Option Place → Option ReadKind
-fault_before is_full selections p s None = Some (refusal p.place.mode s)
-fault_before is_full selections p s (Some next) = if is_too_deep next then Some TooDeep else limit_fault is_full selections p.place.mode p.draft s
+abbrev pub fault_before : Bool → List (Option (List Name)) → Pending → Shape → Option Position → Option ReadKind
+fault_before is_full selections p s None = Some (refusal p.position.state s)
+fault_before is_full selections p s (Some next) = if is_too_deep next then Some TooDeep else limit_fault is_full selections p.position.state p.draft s
 
 -- which fault stands at the token
 abbrev pub fault_here : Bool → List (Option (List Name)) → Pending → Shape → Option ReadKind
-fault_here is_full selections p s = if breaks_item p.place.mode p s then Some BadConclude else fault_before is_full selections p s (step p.place s)
+fault_here is_full selections p s = if breaks_item p.position.state p s then Some BadConclude else fault_before is_full selections p s (step p.position s)
 
 -- the place where the token leads
-abbrev pub place_or : Place → Option Place → Place
-place_or place None = place
-place_or place (Some next) = next
+abbrev pub position_or : Position → Option Position → Position
+position_or position None = position
+position_or position (Some next) = next
 
 -- the numbers with the one that was read
-abbrev pub with_number : List ℕ → ItemPlace → List ℕ
+abbrev pub with_number : List ℕ → ItemState → List ℕ
 with_number chosen (number_read k) = chosen ++ k ∷ []
 with_number chosen _ = chosen
 
 -- the items with the one that ends, where it gives conclusions
-abbrev pub with_item : List (List ℕ) → List ℕ → ItemPlace → List (List ℕ)
+abbrev pub with_item : List (List ℕ) → List ℕ → ItemState → List (List ℕ)
 with_item conclude chosen item_closed = conclude ++ chosen ∷ []
 with_item conclude chosen _ = conclude
 
@@ -86,7 +86,7 @@ abbrev pub end_item : Pending → Pending
 end_item p = record p { conclude = with_item p.conclude p.chosen p.item; chosen = []; item = item_start }
 
 -- a token of an item
-abbrev pub take_item : Pending → Option ItemPlace → Pending
+abbrev pub take_item : Pending → Option ItemState → Pending
 take_item p None = p
 take_item p (Some item) = record p { item = item; chosen = with_number p.chosen item }
 
@@ -109,7 +109,7 @@ abbrev pub with_name : Asked → Shape → Asked
 with_name asked s = if is_name s then record asked { names = add_name (name_of s) asked.names } else asked
 
 -- what the token at this line and column adds
-abbrev pub add_at : Mode → ℕ → Bool → Pending → Shape → ℕ → ℕ → Pending
+abbrev pub add_at : State → ℕ → Bool → Pending → Shape → ℕ → ℕ → Pending
 add_at Statement depth is_outside p s line column = record p { line = line; column = column }
 add_at NameStart depth is_outside p s line column = record p { name = name_of s }
 add_at InfoStart depth is_outside p s line column = record p { words = map has_word p.draft.literals }
@@ -118,16 +118,16 @@ add_at FileStart depth is_outside p s line column = record p { asked = record { 
 add_at SelectionStart depth is_outside p s line column = record p { asked = record p.asked { names = Some [] } }
 add_at SelectionOpen depth is_outside p s line column = record p { asked = with_name p.asked s }
 add_at SelectedStart depth is_outside p s line column = record p { asked = with_name p.asked s }
-add_at mode depth is_outside p s line column = record p { draft = collect_at mode depth s p.draft }
+add_at state depth is_outside p s line column = record p { draft = collect_at state depth s p.draft }
 
 -- the statement with this token, which leads to that place
-abbrev pub with_token : Pending → Shape → ℕ → ℕ → Place → Pending
-with_token p s line column next = record (add_at p.place.mode p.place.depth (is_outside_items p.place s) p s line column) { place = next }
+abbrev pub with_token : Pending → Shape → ℕ → ℕ → Position → Pending
+with_token p s line column next = record (add_at p.position.state p.position.depth (is_outside_items p.position s) p s line column) { position = next }
 
 -- what follows where no fault, or this one, stands at the token
 abbrev pub taken : Option ReadKind → Pending → Shape → ℕ → ℕ → Result Pending ReadKind
 taken (Some kind) p s line column = Err kind
-taken None p s line column = Ok (with_token p s line column (place_or p.place (step p.place s)))
+taken None p s line column = Ok (with_token p s line column (position_or p.position (step p.position s)))
 
 -- the fact, where no fault was met
 abbrev pub IfNoFault : Option ReadKind → Type 0 → Type 0

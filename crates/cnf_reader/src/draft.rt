@@ -9,7 +9,7 @@ ghost use Rattle.cnf_reader.specs.Sound.{HasFew};
 ghost use Rattle.cnf_grammar.specs.Meaning as meaning;
 ghost use Rattle.cnf_grammar.specs.Seen.{seen};
 
-use cnf_grammar::{Lexeme, Mode};
+use cnf_grammar::{Lexeme, State};
 use mg_word::{Items, Kind, NoMemory, Text};
 use std::alloc::Global;
 use std::marker::Model;
@@ -205,15 +205,17 @@ impl<'a> ClauseDraft<'a> {
     }
 
     /// What the token, read with this mode and so many brackets of arguments open, adds.
-    pub fn collect(&mut self, mode: Mode, depth: u32, token: &Lexeme<'a>) -> Result<(), NoMemory>
+    pub fn collect(&mut self, state: State, depth: u32, token: &Lexeme<'a>) -> Result<(), NoMemory>
         requires { IsRoomy self.old }
-        ensures { IfOk result (λ _. self.new ≡ drafts.collect_at mode depth (seen token.now) self.old) }
+        ensures { IfOk result (λ _. self.new ≡ drafts.collect_at state depth (seen token.now) self.old) }
     {
-        match mode {
-            Mode::FormulaStart | Mode::LiteralStart | Mode::AtomStart => self.begin_literal(token),
-            Mode::WordRead => self.end_word(depth, token),
-            Mode::TermStart => self.begin_term(token),
-            Mode::TermRead => self.end_term(depth, token),
+        match state {
+            State::FormulaStart | State::LiteralStart | State::AtomStart => self.begin_literal(
+                token,
+            ),
+            State::WordRead => self.end_word(depth, token),
+            State::TermStart => self.begin_term(token),
+            State::TermRead => self.end_term(depth, token),
             _ => Ok(()),
         }
     }

@@ -79,7 +79,7 @@ fn admit(alloc: Global, kept: &mut Kept, name: String, bytes: Vec<u8>) -> Result
     let listed = Text::new(Vec::from_slice(alloc, name.as_bytes())?);
     kept.files.push(listed)?;
     kept.bytes += bytes.len() as u64;
-    Ok(OpenFile::new(alloc, name, number, bytes))
+    Ok(OpenFile::new(name, number, bytes))
 }
 
 /// Opens the file that an include asks for, which stands in a file that so many others are open

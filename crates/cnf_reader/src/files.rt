@@ -1,32 +1,28 @@
 //! Files that are open: how far each was read.
 
 ghost use Rattle.std.specs.Prelude.{◌≡◌, ◌∷◌, ◌≤◌, [], IfOk, OnOk, MatchOption, length, string_bytes, ◌<◌, ◌+◌};
-ghost use Rattle.cnf_reader.specs.Frames.{Advances, IsPaidStep, left_in};
+ghost use Rattle.cnf_reader.specs.Frames.{Advances, left_in};
+ghost use Rattle.cnf_reader.specs.Led.{IsPaid};
 ghost use Rattle.cnf_reader.specs.Parts.{Stays};
 ghost use Rattle.cnf_reader.specs.Sound.{IsSoundKept};
 ghost use Rattle.tptp_lexer.specs.Tokens.{start_cursor};
-ghost use Rattle.cnf_grammar.specs.Table.{start};
 
-use crate::fault::ReadKind;
 use crate::kept::Kept;
 use crate::part::{Part, read_part};
-use crate::pending::Asked;
 use crate::selections::Selections;
-use cnf_grammar::Place;
 use mg_word::NoMemory;
 use std::alloc::Global;
 use std::marker::Model;
 use tptp_lexer::Cursor;
 
-/// A file that is open. Contracts see its name, its number, its bytes, and the cursor and the place
-/// in the grammar behind the statements that were read.
+/// A file that is open. Contracts see its name, its number, its bytes, and the cursor behind the
+/// statements that were read.
 #[derive(Drop)]
 pub struct OpenFile {
     name: String,
     number: u32,
     bytes: Vec<u8>,
     cursor: Cursor,
-    place: Place,
 }
 
 impl Model for OpenFile {
@@ -39,31 +35,17 @@ impl Model for OpenFile {
     ghost invariant = { IsFileOpen };
 }
 
-/// What was read of a file.
-#[derive(Drop)]
-pub enum Step {
-    /// All of it.
-    Ended,
-    /// A clause.
-    Clause,
-    /// An include.
-    Include(Asked),
-    /// A fault at this line and column.
-    Fault(ReadKind, u32, u32),
-}
-
 impl OpenFile {
     /// The file of this name and number, of which nothing was read.
-    pub fn new(alloc: Global, name: String, number: u32, bytes: Vec<u8>) -> OpenFile
+    pub fn new(name: String, number: u32, bytes: Vec<u8>) -> OpenFile
         requires { length bytes.items ≤ 16777216 }
-        ensures { result ≡ record { name = string_bytes name; number = number; bytes = bytes.items; cursor = start_cursor; place = start } }
+        ensures { result ≡ record { name = string_bytes name; number = number; bytes = bytes.items; cursor = start_cursor } }
     {
         OpenFile {
             name,
             number,
             bytes,
             cursor: Cursor::start(),
-            place: Place::start(alloc),
         }
     }
 
@@ -80,13 +62,13 @@ impl OpenFile {
         alloc: Global,
         selections: &Selections,
         kept: &mut Kept,
-    ) -> Result<(Step, OpenFile), NoMemory>
+    ) -> Result<(Part, OpenFile), NoMemory>
         requires sound { IsSoundKept kept.old }
         requires file { self.number < length kept.old.files }
         requires room { length kept.old.symbols + left_in self ≤ 16777216 }
         ensures stays { OnOk result (Stays kept.old kept.new) }
         ensures sound { OnOk result (IsSoundKept kept.new) }
-        ensures paid { IfOk result (λ made. IsPaidStep made.0 kept.old (left_in self) kept.new (left_in made.1)) }
+        ensures paid { IfOk result (λ made. IsPaid made.0 kept.old (left_in self) kept.new (left_in made.1)) }
         ensures advances { IfOk result (λ made. Advances selections.now kept.old self made.0 kept.new made.1) }
     {
         let OpenFile {
@@ -94,26 +76,15 @@ impl OpenFile {
             number,
             bytes,
             mut cursor,
-            place,
         } = self;
-        let part = read_part(alloc, &bytes, &mut cursor, place, number, selections, kept)?;
-        let (step, place) = match part {
-            Part::Ended => (Step::Ended, Place::start(alloc)),
-            Part::Clause(place) => (Step::Clause, place),
-            Part::Include(place, asked) => (Step::Include(asked), place),
-            Part::Fault(kind, line, column) => (
-                Step::Fault(kind, line, column),
-                Place::start(alloc),
-            ),
-        };
+        let part = read_part(alloc, &bytes, &mut cursor, number, selections, kept)?;
         let file = OpenFile {
             name,
             number,
             bytes,
             cursor,
-            place,
         };
-        Ok((step, file))
+        Ok((part, file))
     }
 }
 

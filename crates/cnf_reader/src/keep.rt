@@ -1,6 +1,6 @@
 //! The clause of a statement that is kept.
 
-ghost use Rattle.std.specs.Prelude.{◌≡◌, ◌+◌, ◌<◌, ◌≤◌, length, true, IfOk, OnOk};
+ghost use Rattle.std.specs.Prelude.{◌≡◌, ◌+◌, ◌<◌, ◌≤◌, length, true, OnOk};
 ghost use Rattle.cnf_reader.specs.Faults.{is_selected};
 ghost use Rattle.cnf_reader.specs.Keeping.{keep as kept_with};
 ghost use Rattle.cnf_reader.specs.Parts.{Stays};
@@ -10,11 +10,10 @@ use crate::kept::Kept;
 use crate::numbers::number_literals;
 use crate::pending::Pending;
 use crate::selections::Selections;
-use cnf_grammar::Place;
-use mg_word::{Clause, Items, NoMemory, Place as ClausePlace};
+use mg_word::{Clause, Items, NoMemory, Place};
 use std::alloc::Global;
 
-/// Keeps the clause of the statement, where each selection has its name, and gives back the place.
+/// Keeps the clause of the statement, where each selection has its name.
 #[tactic(auto, unfolding(crate::specs::Keeping::keep))]
 pub fn keep(
     alloc: Global,
@@ -22,20 +21,20 @@ pub fn keep(
     kept: &mut Kept,
     number: u32,
     pending: Pending,
-) -> Result<Place, NoMemory>
+) -> Result<(), NoMemory>
     requires sound { IsSoundKept kept.old }
     requires file { number < length kept.old.files }
     requires ready { IsReady pending }
     requires room { length kept.old.symbols + count_items pending.draft.literals ≤ 4294967295 }
     requires few { is_selected selections.now pending.name ≡ true → length kept.old.clauses < 20000 }
-    ensures kept { IfOk result (λ place. (place ≡ pending.entry.place) × (kept.new ≡ kept_with selections.now kept.old number pending.entry)) }
+    ensures kept { OnOk result (kept.new ≡ kept_with selections.now kept.old number pending.entry) }
     ensures stays { OnOk result (Stays kept.old kept.new) }
     ensures files { OnOk result (kept.new.files ≡ kept.old.files) }
     ensures sound { OnOk result (IsSoundKept kept.new) }
     ensures grown { OnOk result (length kept.new.symbols ≤ length kept.old.symbols + count_items pending.entry.draft.literals) }
 {
     let Pending {
-        place,
+        position: _,
         line,
         column,
         name,
@@ -47,12 +46,12 @@ pub fn keep(
         asked: _,
     } = pending;
     if !selections.have(&name)? {
-        return Ok(place);
+        return Ok(());
     }
     let literals = number_literals(alloc, &mut kept.symbols, draft.literals())?;
     let clause = Clause {
         name,
-        place: ClausePlace {
+        place: Place {
             file: number,
             line,
             column,
@@ -62,5 +61,5 @@ pub fn keep(
         conclude,
     };
     kept.clauses.push(clause)?;
-    Ok(place)
+    Ok(())
 }

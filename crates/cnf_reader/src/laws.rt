@@ -3,9 +3,9 @@
 
 ghost use Rattle.std.specs.Prelude.{◌≡◌, ◌≢◌, ◌⊎◌, ℕ, Bool, List, ◌++◌, AllPairs, Option, Some, Result, Ok, Err};
 ghost use Rattle.mg_word.specs.declared.clause.Name.{Name};
-ghost use Rattle.cnf_grammar.specs.declared.mode.Mode.{Mode};
-ghost use Rattle.cnf_grammar.specs.declared.mode.Mode.TheVariants.{Statement};
-ghost use Rattle.cnf_grammar.specs.declared.place.Place.{Place};
+ghost use Rattle.cnf_grammar.specs.declared.state.State.{State};
+ghost use Rattle.cnf_grammar.specs.declared.state.State.TheVariants.{Statement};
+ghost use Rattle.cnf_grammar.specs.Table.{start};
 ghost use Rattle.cnf_grammar.specs.Meaning.{ClauseLiteral};
 ghost use Rattle.mg_word.specs.Facts.{InputData};
 ghost use Rattle.mg_word.specs.Table.{Symbol};
@@ -35,10 +35,10 @@ pub fn files_read_as_one_thing()
 /// Wherever between statements the tokens of the next one are taken without a fault up to its dot,
 /// one statement of the grammar spells them, and what is then held is what it means: the name,
 /// literals, variables and conclusions of a clause, the file and the names of an include. Behind the
-/// dot it is between statements again.
+/// dot it is at the start again.
 pub fn each_statement_holds_its_meaning()
-    ensures meaning { (is_full : Bool) (selections : List (Option (List Name))) (place : Place) (tokens : List Written) (mode : Mode) (whole : Pending) → place.mode ≡ Statement → TakesStatement is_full selections (fresh place) tokens mode whole → HoldsItsMeaning tokens mode whole }
-    ensures next { (is_full : Bool) (selections : List (Option (List Name))) (place : Place) (tokens : List Written) (mode : Mode) (whole : Pending) → place.mode ≡ Statement → TakesStatement is_full selections (fresh place) tokens mode whole → whole.place.mode ≡ Statement }
+    ensures meaning { (is_full : Bool) (selections : List (Option (List Name))) (tokens : List Written) (state : State) (whole : Pending) → TakesStatement is_full selections fresh tokens state whole → HoldsItsMeaning tokens state whole }
+    ensures next { (is_full : Bool) (selections : List (Option (List Name))) (tokens : List Written) (state : State) (whole : Pending) → TakesStatement is_full selections fresh tokens state whole → whole.position ≡ start }
 {
     only_files_are_accepted();
     each_file_leaves_its_meaning();

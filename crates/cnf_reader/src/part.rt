@@ -5,7 +5,7 @@ ghost use Rattle.tptp_lexer.specs.Tokens.{left_of, IsAt};
 ghost use Rattle.cnf_grammar.specs.Seen.{seen};
 ghost use Rattle.cnf_reader.specs.Keeping.{is_full};
 ghost use Rattle.cnf_reader.specs.Led.{count_left, IsPaid};
-ghost use Rattle.cnf_reader.specs.Parts.{IsBetween, IsPart, IsEnd, Stays};
+ghost use Rattle.cnf_reader.specs.Parts.{IsPart, IsEnd, Stays};
 ghost use Rattle.cnf_reader.specs.Sound.{IsSoundKept};
 ghost use Rattle.cnf_reader.specs.declared.part.Part.TheVariants.{Include};
 
@@ -15,7 +15,7 @@ use crate::keep::keep;
 use crate::kept::Kept;
 use crate::pending::{Asked, Pending};
 use crate::selections::Selections;
-use cnf_grammar::{Lexeme, Mode, Place};
+use cnf_grammar::{Lexeme, Position, State};
 use mg_word::NoMemory;
 use std::alloc::Global;
 use tptp_lexer::{Cursor, next_token};
@@ -25,21 +25,21 @@ use tptp_lexer::{Cursor, next_token};
 pub enum Part {
     /// The end of the file.
     Ended,
-    /// A clause, which is kept if it is selected, and the place behind it.
-    Clause(Place),
-    /// An include, and the place behind it.
-    Include(Place, Asked),
+    /// A clause, which is kept if it is selected.
+    Clause,
+    /// An include.
+    Include(Asked),
     /// A fault at this line and column.
     Fault(ReadKind, u32, u32),
 }
 
-// What the end of the tokens is at this place.
-fn end_part(bytes: &[u8], place: &Place) -> Part
+// What the end of the tokens is at this position.
+fn end_part(bytes: &[u8], position: &Position) -> Part
     requires { length bytes.now ≤ 16777216 }
-    ensures { IsEnd bytes.now place.now result }
+    ensures { IsEnd bytes.now position.now result }
 {
-    match place.mode {
-        Mode::Statement => Part::Ended,
+    match position.state {
+        State::Statement => Part::Ended,
         _ => {
             let (line, column) = end_of(bytes);
             Part::Fault(ReadKind::Expected, line, column)
@@ -52,14 +52,12 @@ pub fn read_part(
     alloc: Global,
     bytes: &[u8],
     cursor: &mut Cursor,
-    place: Place,
     number: u32,
     selections: &Selections,
     kept: &mut Kept,
 ) -> Result<Part, NoMemory>
     requires small { length bytes.now ≤ 16777216 }
     requires at { IsAt bytes.now cursor.old }
-    requires between { IsBetween place }
     requires sound { IsSoundKept kept.old }
     requires file { number < length kept.old.files }
     requires room { length kept.old.symbols + count_left bytes.now cursor.old ≤ 16777216 }
@@ -67,10 +65,10 @@ pub fn read_part(
     ensures stays { OnOk result (Stays kept.old kept.new) }
     ensures sound { OnOk result (IsSoundKept kept.new) }
     ensures paid { IfOk result (λ part. IsPaid part kept.old (count_left bytes.now cursor.old) kept.new (count_left bytes.now cursor.new)) }
-    ensures part { IfOk result (λ part. IsPart number bytes.now selections.now place kept.old (left_of bytes.now cursor.old) part kept.new (left_of bytes.now cursor.new)) }
+    ensures part { IfOk result (λ part. IsPart number bytes.now selections.now kept.old (left_of bytes.now cursor.old) part kept.new (left_of bytes.now cursor.new)) }
 {
     let is_full = kept.clauses.as_slice().len() >= 20000;
-    let mut pending = Pending::fresh(alloc, place);
+    let mut pending = Pending::fresh(alloc);
     loop {
         let found = match next_token(bytes, cursor) {
             Ok(found) => found,
@@ -79,14 +77,14 @@ pub fn read_part(
             }
         };
         let Some(token) = found else {
-            return Ok(end_part(bytes, &pending.place));
+            return Ok(end_part(bytes, &pending.position));
         };
         let lexeme = Lexeme {
             kind: token.kind,
             text: &bytes[token.start as usize..token.end as usize],
             plain: token.plain,
         };
-        let mode = pending.place.mode;
+        let state = pending.position.state;
         let fault = pending.take(
             alloc,
             is_full,
@@ -98,23 +96,23 @@ pub fn read_part(
         if let Some(kind) = fault {
             return Ok(Part::Fault(kind, token.line, token.column));
         }
-        match mode {
-            Mode::ClauseClosed => {
-                let place = keep(alloc, selections, kept, number, pending)?;
-                return Ok(Part::Clause(place));
+        match state {
+            State::ClauseClosed => {
+                keep(alloc, selections, kept, number, pending)?;
+                return Ok(Part::Clause);
             }
-            Mode::IncludeClosed => return Ok(include_part(pending)),
+            State::IncludeClosed => return Ok(include_part(pending)),
             _ => {}
         }
     }
 }
 
-// The include of the statement, and the place behind it.
+// The include of the statement.
 fn include_part(pending: Pending) -> Part
-    ensures { result ≡ Include pending.entry.place pending.entry.asked }
+    ensures { result ≡ Include pending.entry.asked }
 {
     let Pending {
-        place,
+        position: _,
         line: _,
         column: _,
         name: _,
@@ -125,5 +123,5 @@ fn include_part(pending: Pending) -> Part
         conclude: _,
         asked,
     } = pending;
-    Part::Include(place, asked)
+    Part::Include(asked)
 }

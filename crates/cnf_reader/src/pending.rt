@@ -12,7 +12,7 @@ use crate::draft::ClauseDraft;
 use crate::fault::ReadKind;
 use crate::selections::Selections;
 use crate::text::{file_text, name_of};
-use cnf_grammar::{ItemPlace, Lexeme, Mode, Place};
+use cnf_grammar::{ItemState, Lexeme, Position, State};
 use mg_word::{Items, Kind, Name, NoMemory, Text};
 use std::alloc::Global;
 use std::mem;
@@ -22,7 +22,7 @@ use tptp_lexer::TokenKind;
 #[derive(Drop)]
 pub struct Pending<'a> {
     /// Where the grammar stands.
-    pub place: Place,
+    pub position: Position,
     /// Where the statement begins.
     pub line: u32,
     pub column: u32,
@@ -33,7 +33,7 @@ pub struct Pending<'a> {
     /// Which of the literals have a word for their atom, once they are whole.
     pub words: Items<bool>,
     /// Where the grammar stands in an item of the info.
-    pub item: ItemPlace,
+    pub item: ItemState,
     /// The numbers of the `conclude` item under way.
     pub chosen: Items<u32>,
     /// The `conclude` items that are whole.
@@ -56,11 +56,11 @@ pub struct Asked {
 
 impl<'a> Pending<'a> {
     /// No token of the statement was read. It takes no memory.
-    pub fn fresh(alloc: Global, place: Place) -> Pending<'a>
-        ensures { result ≡ statements.fresh place }
+    pub fn fresh(alloc: Global) -> Pending<'a>
+        ensures { result ≡ statements.fresh }
     {
         Pending {
-            place,
+            position: Position::start(alloc),
             line: 0,
             column: 0,
             name: Name {
@@ -69,7 +69,7 @@ impl<'a> Pending<'a> {
             },
             draft: ClauseDraft::empty(alloc),
             words: Items::empty(alloc),
-            item: ItemPlace::Start,
+            item: ItemState::Start,
             chosen: Items::empty(alloc),
             conclude: Items::empty(alloc),
             asked: Asked {
@@ -93,39 +93,39 @@ impl<'a> Pending<'a> {
         line: u32,
         column: u32,
     ) -> Result<Option<ReadKind>, NoMemory>
-        requires open { self.old.place.level + self.old.place.depth ≤ 100 }
+        requires open { self.old.position.level + self.old.position.depth ≤ 100 }
         requires within { IsRoomyPending self.old }
         ensures taken { IfOk result (λ fault. Takes (statements.take is_full selections.now self.old (seen token.now) line column) fault self.new) }
-        ensures open { IfOk result (λ fault. IfNoFault fault (self.new.place.level + self.new.place.depth ≤ 100)) }
+        ensures open { IfOk result (λ fault. IfNoFault fault (self.new.position.level + self.new.position.depth ≤ 100)) }
     {
-        let mode = self.place.mode;
-        let depth = self.place.depth;
+        let state = self.position.state;
+        let depth = self.position.depth;
         let is_outside = self.is_outside_items(token);
-        if self.breaks_item(mode, is_outside, token) {
+        if self.breaks_item(state, is_outside, token) {
             return Ok(Some(ReadKind::BadConclude));
         }
-        if !self.place.advance(token.kind, token.text, token.plain)? {
-            return Ok(Some(refusal(mode, token)));
+        if !self.position.advance(token.kind, token.text, token.plain)? {
+            return Ok(Some(refusal(state, token)));
         }
-        if self.place.level + self.place.depth > 100 {
+        if self.position.level + self.position.depth > 100 {
             return Ok(Some(ReadKind::TooDeep));
         }
-        if let Some(kind) = self.limit_fault(alloc, is_full, selections, mode, token)? {
+        if let Some(kind) = self.limit_fault(alloc, is_full, selections, state, token)? {
             return Ok(Some(kind));
         }
-        self.add(alloc, mode, depth, is_outside, token, line, column)?;
+        self.add(alloc, state, depth, is_outside, token, line, column)?;
         Ok(None)
     }
 
     // Whether the token, if in the info, stands between the items or ends them.
     fn is_outside_items(&self, token: &Lexeme) -> bool
-        ensures { result ≡ statements.is_outside_items self.now.place (seen token.now) }
+        ensures { result ≡ statements.is_outside_items self.now.position (seen token.now) }
     {
-        self.place.brackets.innermost().is_none() && (token.is_mark(b',') || token.is_mark(b']'))
+        self.position.brackets.innermost().is_none() && (token.is_mark(b',') || token.is_mark(b']'))
     }
 
     // Where the token leads in an item of the info.
-    fn next_item(&self, token: &Lexeme) -> Option<ItemPlace>
+    fn next_item(&self, token: &Lexeme) -> Option<ItemState>
         requires { length self.now.words ≤ 64 }
         ensures { result ≡ item_step self.now.words self.now.item (seen token.now) }
     {
@@ -134,13 +134,13 @@ impl<'a> Pending<'a> {
     }
 
     // Whether the token breaks a conclude item.
-    fn breaks_item(&self, mode: Mode, is_outside: bool, token: &Lexeme) -> bool
-        requires outside { is_outside ≡ statements.is_outside_items self.now.place (seen token.now) }
+    fn breaks_item(&self, state: State, is_outside: bool, token: &Lexeme) -> bool
+        requires outside { is_outside ≡ statements.is_outside_items self.now.position (seen token.now) }
         requires few { length self.now.words ≤ 64 }
-        ensures { result ≡ statements.breaks_item mode self.now (seen token.now) }
+        ensures { result ≡ statements.breaks_item state self.now (seen token.now) }
     {
-        match mode {
-            Mode::Info => !is_outside && self.next_item(token).is_none(),
+        match state {
+            State::Info => !is_outside && self.next_item(token).is_none(),
             _ => false,
         }
     }
@@ -151,21 +151,21 @@ impl<'a> Pending<'a> {
         alloc: Global,
         is_full: bool,
         selections: &Selections,
-        mode: Mode,
+        state: State,
         token: &Lexeme,
     ) -> Result<Option<ReadKind>, NoMemory>
-        ensures { IfOk result (λ fault. fault ≡ faults.limit_fault is_full selections.now mode self.now.draft (seen token.now)) }
+        ensures { IfOk result (λ fault. fault ≡ faults.limit_fault is_full selections.now state self.now.draft (seen token.now)) }
     {
-        match mode {
-            Mode::NameStart => name_fault(alloc, is_full, selections, token),
-            Mode::RoleStart => Ok(role_fault(token)),
-            Mode::LiteralStart => {
+        match state {
+            State::NameStart => name_fault(alloc, is_full, selections, token),
+            State::RoleStart => Ok(role_fault(token)),
+            State::LiteralStart => {
                 if self.draft.count() >= 64 {
                     return Ok(Some(ReadKind::TooManyLiterals));
                 }
                 Ok(None)
             }
-            Mode::TermStart => Ok(variable_fault(&self.draft, token)),
+            State::TermStart => Ok(variable_fault(&self.draft, token)),
             _ => Ok(None),
         }
     }
@@ -174,7 +174,7 @@ impl<'a> Pending<'a> {
     fn add(
         &mut self,
         alloc: Global,
-        mode: Mode,
+        state: State,
         depth: u32,
         is_outside: bool,
         token: &Lexeme<'a>,
@@ -182,24 +182,24 @@ impl<'a> Pending<'a> {
         column: u32,
     ) -> Result<(), NoMemory>
         requires { IsRoomyPending self.old }
-        ensures { IfOk result (λ _. self.new ≡ statements.add_at mode depth is_outside self.old (seen token.now) line column) }
+        ensures { IfOk result (λ _. self.new ≡ statements.add_at state depth is_outside self.old (seen token.now) line column) }
     {
-        match mode {
-            Mode::Statement => {
+        match state {
+            State::Statement => {
                 self.line = line;
                 self.column = column;
                 Ok(())
             }
-            Mode::NameStart => {
+            State::NameStart => {
                 self.name = name_of(alloc, token)?;
                 Ok(())
             }
-            Mode::InfoStart => {
+            State::InfoStart => {
                 self.words = self.draft.words()?;
                 Ok(())
             }
-            Mode::Info => self.take_info(alloc, is_outside, token),
-            Mode::FileStart => {
+            State::Info => self.take_info(alloc, is_outside, token),
+            State::FileStart => {
                 self.asked = Asked {
                     file: file_text(alloc, token)?,
                     line,
@@ -208,12 +208,12 @@ impl<'a> Pending<'a> {
                 };
                 Ok(())
             }
-            Mode::SelectionStart => {
+            State::SelectionStart => {
                 self.asked.names = Some(Items::empty(alloc));
                 Ok(())
             }
-            Mode::SelectionOpen | Mode::SelectedStart => self.asked.add(alloc, token),
-            _ => self.draft.collect(mode, depth, token),
+            State::SelectionOpen | State::SelectedStart => self.asked.add(alloc, token),
+            _ => self.draft.collect(state, depth, token),
         }
     }
 
@@ -227,7 +227,7 @@ impl<'a> Pending<'a> {
         }
         if let Some(item) = self.next_item(token) {
             self.item = item;
-            if let ItemPlace::NumberRead(number) = item {
+            if let ItemState::NumberRead(number) = item {
                 self.chosen.push(number)?;
             }
         }
@@ -239,10 +239,10 @@ impl<'a> Pending<'a> {
         ensures { IfOk result (λ _. self.new ≡ statements.end_item self.old) }
     {
         let chosen = mem::replace(&mut self.chosen, Items::empty(alloc));
-        if self.item == ItemPlace::Closed {
+        if self.item == ItemState::Closed {
             self.conclude.push(chosen)?;
         }
-        self.item = ItemPlace::Start;
+        self.item = ItemState::Start;
         Ok(())
     }
 }
@@ -269,14 +269,14 @@ impl Asked {
 }
 
 // What is wrong with a token that the grammar does not have here.
-fn refusal(mode: Mode, token: &Lexeme) -> ReadKind
-    ensures { result ≡ faults.refusal mode (seen token.now) }
+fn refusal(state: State, token: &Lexeme) -> ReadKind
+    ensures { result ≡ faults.refusal state (seen token.now) }
 {
-    match mode {
-        Mode::Statement => no_statement(token),
-        Mode::FormulaStart | Mode::LiteralStart | Mode::AtomStart => no_atom(token),
-        Mode::WordRead | Mode::TermRead => no_follower(token),
-        Mode::TermStart => no_term(token),
+    match state {
+        State::Statement => no_statement(token),
+        State::FormulaStart | State::LiteralStart | State::AtomStart => no_atom(token),
+        State::WordRead | State::TermRead => no_follower(token),
+        State::TermStart => no_term(token),
         _ => ReadKind::Expected,
     }
 }

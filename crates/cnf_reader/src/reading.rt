@@ -10,8 +10,9 @@ ghost use Rattle.cnf_reader.specs.Sound.{IsSoundKept, AreFewNames};
 
 use crate::enter::{begin, enter, fault_at};
 use crate::fault::ReadFault;
-use crate::files::{OpenFile, OpenFiles, Step};
+use crate::files::{OpenFile, OpenFiles};
 use crate::kept::Kept;
+use crate::part::Part;
 use crate::pending::Asked;
 use crate::selections::Selections;
 use mg_outside::Files;
@@ -79,9 +80,9 @@ fn read_files<F: Files>(
     let mut selections = Selections::empty(alloc);
     selections.push(None)?;
     'statements: loop {
-        let (step, next) = file.read(alloc, &selections, &mut kept)?;
-        match step {
-            Step::Ended => {
+        let (part, next) = file.read(alloc, &selections, &mut kept)?;
+        match part {
+            Part::Ended => {
                 let Some(around) = outer.pop() else {
                     return Ok(kept);
                 };
@@ -89,11 +90,11 @@ fn read_files<F: Files>(
                 file = around;
                 continue;
             }
-            Step::Clause => {
+            Part::Clause => {
                 file = next;
                 continue;
             }
-            Step::Include(asked) => {
+            Part::Include(asked) => {
                 let inner = match enter(alloc, files, root, &mut kept, &next, outer.len(), &asked) {
                     Ok(inner) => inner,
                     Err(fault) => return Err(fault),
@@ -102,7 +103,7 @@ fn read_files<F: Files>(
                 file = inner;
                 continue;
             }
-            Step::Fault(kind, line, column) => {
+            Part::Fault(kind, line, column) => {
                 return Err(fault_at(alloc, kind, next.name(), line, column, &[]));
             }
         }

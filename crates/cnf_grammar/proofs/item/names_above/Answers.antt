@@ -3,15 +3,15 @@ use Rattle.std.proofs.Common.{◌≡◌, ◌<◌, ◌≤◌, false, length, get_
 use Rattle.cnf_grammar.specs.Items.{names_above}
 use Rattle.cnf_grammar.proofs.ItemNumbers.{step_over}
 use Rattle.cnf_grammar.proofs.item.names_above.Goals as goal
-use Rattle.cnf_grammar.proofs.item.names_above.Goals.{else-last-place-via-then-last-place+else-word, else-last-place-via-else-last-place}
+use Rattle.cnf_grammar.proofs.item.names_above.Goals.{else-last-position-via-then-last-position+else-word, else-last-position-via-else-last-position}
 
-pub loop-place-preserved : goal.loop-place-preserved
-loop-place-preserved c =
-    let i = c.loop-place.place in
+pub loop-position-preserved : goal.loop-position-preserved
+loop-position-preserved c =
+    let i = c.loop-position.position in
     let within : i < length c.args.words.now = omega arith in
     let none : c.args.last ≤ i → get_or c.args.words.now i false ≡ false =
-    elim c.else-last-place.branch [
-      | else-last-place-via-then-last-place+else-word w ↦ λ h. w.if-word.false
-      | else-last-place-via-else-last-place w ↦ λ h. absurd (omega arith)
+    elim c.else-last-position.branch [
+      | else-last-position-via-then-last-position+else-word w ↦ λ h. w.if-word.false
+      | else-last-position-via-else-last-position w ↦ λ h. absurd (omega arith)
     ] in
-    step_over c.args.words.now c.args.last i (names_above c.args.words.now c.args.last) within none c.loop-place.invariant
+    step_over c.args.words.now c.args.last i (names_above c.args.words.now c.args.last) within none c.loop-position.invariant

@@ -1,6 +1,6 @@
 use Rattle.std.proofs.Common.{◌+◌, ap, arith, get_or, ◌==◌}
 use Rattle.tptp_lexer.specs.declared.spot.Spot.{Spot}
-use Rattle.cnf_reader.proofs.Ends.{next_place, passed_all, same_default, bounded}
+use Rattle.cnf_reader.proofs.Ends.{next_spot, passed_all, same_default, bounded}
 use Rattle.cnf_reader.proofs.end.end_of.Goals as goal
 
 pub loop-byte-preserved : goal.loop-byte-preserved
@@ -8,7 +8,7 @@ loop-byte-preserved c =
     let byte = get_or c.args.bytes.now c.loop-byte.byte-index 0 in
     record {
       passed =
-          next_place c.args.bytes.now c.loop-byte.byte-index c.loop-byte.line c.loop-byte.column c.past-next_line.result.0 c.past-next_line.result.1 byte c.loop-byte-test.true
+          next_spot c.args.bytes.now c.loop-byte.byte-index c.loop-byte.line c.loop-byte.column c.past-next_line.result.0 c.past-next_line.result.1 byte c.loop-byte-test.true
           (same_default c.args.bytes.now c.loop-byte.byte-index 0 byte c.loop-byte-test.true) c.loop-byte.invariant.passed c.past-next_line.ensures.line c.past-next_line.ensures.column;
       lines = bounded (byte == 10) c.past-next_line.result.0 (c.loop-byte.line + 1) c.loop-byte.line (c.loop-byte.byte-index + 1) c.past-next_line.ensures.line (omega arith) (omega arith);
       columns = bounded (byte == 10) c.past-next_line.result.1 1 (c.loop-byte.column + 1) (c.loop-byte.byte-index + 1) c.past-next_line.ensures.column (omega arith) (omega arith);

@@ -11,9 +11,9 @@ abbrev pub invariant-loop-found : goal.invariant-loop-found
 invariant-loop-found l = record {
   at : IsAt l.bytes l.cursor;
   same : l.kept ≡ l.fn.kept;
-  few : IsOpen l.pending.place;
-  led : IsLed (is_full l.fn.kept) l.selections l.fn.place (count_left l.bytes l.fn.cursor) l.pending (count_left l.bytes l.cursor);
-  reaches : Reaches l.number l.bytes l.selections l.fn.kept (fresh l.fn.place) (left_of l.bytes l.fn.cursor) l.pending (left_of l.bytes l.cursor);
+  few : IsOpen l.pending.position;
+  led : IsLed (is_full l.fn.kept) l.selections (count_left l.bytes l.fn.cursor) l.pending (count_left l.bytes l.cursor);
+  reaches : Reaches l.number l.bytes l.selections l.fn.kept fresh (left_of l.bytes l.fn.cursor) l.pending (left_of l.bytes l.cursor);
 }
 
 -- how many tokens are left

@@ -24,10 +24,10 @@ returns-in-Err-clause-read g c = not_begun _ _ c.args.name.now _ _ c.in-Err.faul
 pub statements-preserved-in-Clause : goal.statements-preserved-in-Clause
 statements-preserved-in-Clause g c = record {
   reached =
-      clause_read _ _ c.args.name.now c.statements.selections c.statements.kept c.read.new.kept c.statements.file c.in_ok-step.next c.statements.outer c.statements.invariant.reached (rw c.in-Clause.is at c.in_ok-step.ensures.advances) c.in_ok-step.ensures.stays;
+      clause_read _ _ c.args.name.now c.statements.selections c.statements.kept c.read.new.kept c.statements.file c.in_ok-part.next c.statements.outer c.statements.invariant.reached (rw c.in-Clause.is at c.in_ok-part.ensures.advances) c.in_ok-part.ensures.stays;
   run =
-      run_on c.statements.kept c.read.new.kept c.statements.file c.in_ok-step.next c.statements.outer c.statements.invariant.run c.in_ok-step.ensures.stays c.in_ok-step.ensures.sound (rw c.in-Clause.is at c.in_ok-step.ensures.advances).0
-      (rw c.in-Clause.is at c.in_ok-step.ensures.paid);
+      run_on c.statements.kept c.read.new.kept c.statements.file c.in_ok-part.next c.statements.outer c.statements.invariant.run c.in_ok-part.ensures.stays c.in_ok-part.ensures.sound (rw c.in-Clause.is at c.in_ok-part.ensures.advances).0
+      (rw c.in-Clause.is at c.in_ok-part.ensures.paid);
   same = c.statements.invariant.same;
   faults = c.statements.invariant.faults;
   absences = c.statements.invariant.absences;
@@ -40,13 +40,13 @@ statements-preserved g c =
     record {
       reached =
           rw (c.in_ok-go_in-in-Include.ensures.0, c.in_ok-go_in-in-Include.ensures.1)
-          (include_entered _ _ c.args.name.now c.statements.selections c.statements.kept c.read.new.kept c.statements.file c.in_ok-step.next c.statements.outer c.statements.invariant.reached c.in-Include.asked (rw c.in-Include.is at c.in_ok-step.ensures.advances)
-          c.in_ok-step.ensures.stays c.enter.new.kept c.in-Ok-enter.inner enters);
+          (include_entered _ _ c.args.name.now c.statements.selections c.statements.kept c.read.new.kept c.statements.file c.in_ok-part.next c.statements.outer c.statements.invariant.reached c.in-Include.asked (rw c.in-Include.is at c.in_ok-part.ensures.advances)
+          c.in_ok-part.ensures.stays c.enter.new.kept c.in-Ok-enter.inner enters);
       run =
           rw c.in_ok-go_in-in-Include.ensures.1
-          (run_entered c.read.new.kept c.enter.new.kept c.in-Ok-enter.inner (c.in_ok-step.next ∷ c.statements.outer)
-          (run_on c.statements.kept c.read.new.kept c.statements.file c.in_ok-step.next c.statements.outer c.statements.invariant.run c.in_ok-step.ensures.stays c.in_ok-step.ensures.sound (rw c.in-Include.is at c.in_ok-step.ensures.advances).0
-          (rw c.in-Include.is at c.in_ok-step.ensures.paid).0) c.in-Ok-enter.ensures.taken enters.fits);
+          (run_entered c.read.new.kept c.enter.new.kept c.in-Ok-enter.inner (c.in_ok-part.next ∷ c.statements.outer)
+          (run_on c.statements.kept c.read.new.kept c.statements.file c.in_ok-part.next c.statements.outer c.statements.invariant.run c.in_ok-part.ensures.stays c.in_ok-part.ensures.sound (rw c.in-Include.is at c.in_ok-part.ensures.advances).0
+          (rw c.in-Include.is at c.in_ok-part.ensures.paid).0) c.in-Ok-enter.ensures.taken enters.fits);
       same = c.in-Ok-enter.ensures.same ∙ c.statements.invariant.same;
       faults = omega (arith, c.in-Ok-enter.ensures.faults, c.statements.invariant.faults);
       absences = omega (arith, c.in-Ok-enter.ensures.absences, c.statements.invariant.absences);
@@ -55,26 +55,26 @@ statements-preserved g c =
 
 pub returns-in-Err-enter-clause-read : goal.returns-in-Err-enter-clause-read
 returns-in-Err-enter-clause-read g c =
-    include_met _ _ c.args.name.now c.statements.selections c.statements.kept c.read.new.kept c.statements.file c.in_ok-step.next c.statements.outer c.statements.invariant.reached _ _ _ c.in-Include.asked c.in-Err-enter.fault
-    (record { faults = c.statements.invariant.faults; absences = c.statements.invariant.absences; overruns = c.statements.invariant.overruns }) (rw c.in-Include.is at c.in_ok-step.ensures.advances) c.in_ok-step.ensures.stays
+    include_met _ _ c.args.name.now c.statements.selections c.statements.kept c.read.new.kept c.statements.file c.in_ok-part.next c.statements.outer c.statements.invariant.reached _ _ _ c.in-Include.asked c.in-Err-enter.fault
+    (record { faults = c.statements.invariant.faults; absences = c.statements.invariant.absences; overruns = c.statements.invariant.overruns }) (rw c.in-Include.is at c.in_ok-part.ensures.advances) c.in_ok-part.ensures.stays
     (rw (c.statements.invariant.same, c.len.ensures) at c.in-Err-enter.ensures.entered)
 
 pub returns-in-Fault-clause-read : goal.returns-in-Fault-clause-read
 returns-in-Fault-clause-read g c =
-    text_met _ _ c.args.name.now c.statements.selections c.statements.kept c.read.new.kept c.statements.file c.in_ok-step.next c.statements.outer c.statements.invariant.reached _ _ c.in-Fault.kind c.in-Fault.line c.in-Fault.column c.fault_at.result
-    (rw c.in-Fault.is at c.in_ok-step.ensures.advances) (rw c.name.ensures at c.fault_at.ensures)
+    text_met _ _ c.args.name.now c.statements.selections c.statements.kept c.read.new.kept c.statements.file c.in_ok-part.next c.statements.outer c.statements.invariant.reached _ _ c.in-Fault.kind c.in-Fault.line c.in-Fault.column c.fault_at.result
+    (rw c.in-Fault.is at c.in_ok-part.ensures.advances) (rw c.name.ensures at c.fault_at.ensures)
 
 pub read-requires-clause-file : goal.read-requires-clause-file
 read-requires-clause-file g c = All-head (λ (f : FileData). f.number < length c.statements.kept.files) c.statements.file c.statements.outer c.statements.invariant.run.numbers
 
 pub statements-preserved-in-Ended : goal.statements-preserved-in-Ended
 statements-preserved-in-Ended g c =
-    let paid = rw c.in-Ended.is at c.in_ok-step.ensures.paid in
+    let paid = rw c.in-Ended.is at c.in_ok-part.ensures.paid in
     record {
       reached =
           rw c.close.ensures
           (subst (Reached _ _ c.args.name.now (drop 1 c.statements.selections) c.read.new.kept) c.in-Some.ensures
-          (file_ended _ _ c.args.name.now c.statements.selections c.statements.kept c.read.new.kept c.statements.file c.in_ok-step.next c.statements.outer c.statements.invariant.reached (rw c.in-Ended.is at c.in_ok-step.ensures.advances) c.in_ok-step.ensures.stays));
+          (file_ended _ _ c.args.name.now c.statements.selections c.statements.kept c.read.new.kept c.statements.file c.in_ok-part.next c.statements.outer c.statements.invariant.reached (rw c.in-Ended.is at c.in_ok-part.ensures.advances) c.in_ok-part.ensures.stays));
       run = subst (IsSoundRun c.read.new.kept) c.in-Some.ensures (run_ended c.statements.kept c.read.new.kept c.statements.file c.statements.outer c.statements.invariant.run paid);
       same = c.statements.invariant.same;
       faults = c.statements.invariant.faults;
@@ -86,5 +86,5 @@ pub statements-smaller : goal.statements-smaller
 statements-smaller g c =
     let enters = rw (c.statements.invariant.same, c.len.ensures) at c.in-Ok-enter.ensures.entered in
     rw c.in_ok-go_in-in-Include.ensures.1
-    (still_entered c.statements.kept c.read.new.kept c.statements.file c.in_ok-step.next c.statements.outer c.in_ok-step.ensures.stays c.enter.new.kept c.in-Ok-enter.inner (rw c.in-Include.is at c.in_ok-step.ensures.paid).0 enters.includes
+    (still_entered c.statements.kept c.read.new.kept c.statements.file c.in_ok-part.next c.statements.outer c.in_ok-part.ensures.stays c.enter.new.kept c.in-Ok-enter.inner (rw c.in-Include.is at c.in_ok-part.ensures.paid).0 enters.includes
     c.in-Ok-enter.ensures.taken.few_includes c.in-Ok-enter.ensures.taken enters.fits)

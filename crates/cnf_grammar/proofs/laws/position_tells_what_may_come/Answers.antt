@@ -1,6 +1,6 @@
 -- The laws are lemmas.
 use Rattle.cnf_grammar.proofs.Joined.{run_step, goes_on, may_end}
-use Rattle.cnf_grammar.proofs.laws.place_tells_what_may_come.Goals as goal
+use Rattle.cnf_grammar.proofs.laws.position_tells_what_may_come.Goals as goal
 
 pub returns-clause-next : goal.returns-clause-next
 returns-clause-next c = run_step

@@ -2,7 +2,7 @@
 
 /// What has just been read, and what may come next.
 #[derive(Clone, Copy, Debug, PartialEq, Eq)]
-pub enum Mode {
+pub enum State {
     /// Between statements: `cnf` or `include` comes, or the file ends.
     Statement,
     /// Behind `cnf`: its opening bracket comes.
