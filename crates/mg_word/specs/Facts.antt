@@ -2,6 +2,9 @@
 use Rattle.std.specs.Prelude.{◌≡◌, ◌≢◌, ℕ, ◌<◌, ◌≤◌, Bool, true, false, ◌&&◌, nat_eq, nat_lt, nat_le, List, [], ◌∷◌, length, All, AllPairs, IsTrue, IsSorted}
 use Rattle.std.specs.List.{list_all, flat_map}
 use Rattle.std.specs.Option.{option_map_or}
+use Rattle.ascii_text.specs.Bytes.{is_printable}
+pub use Rattle.ascii_text.specs.Bytes.{is_digit}
+pub use Rattle.ascii_text.specs.Numbers.{is_plain_number}
 use Rattle.mg_word.specs.Table.{Symbol}
 use Rattle.mg_word.specs.SymbolOrder.{symbol_cmp}
 use Rattle.mg_word.specs.Words.{pattern_fits, numbered}
@@ -29,19 +32,9 @@ pub record ProblemData : Type 0 where
   pub clauses : List Clause
   pub forms : List Form
 
--- the byte is a digit
-abbrev pub is_digit : ℕ → Bool
-is_digit byte = nat_le 48 byte && nat_le byte 57
-
--- digits alone, without a leading zero unless it is 0
-abbrev pub is_plain_number : List ℕ → Bool
-is_plain_number [] = false
-is_plain_number (first ∷ []) = is_digit first
-is_plain_number (first ∷ second ∷ digits) = nat_le 49 first && list_all is_digit (first ∷ second ∷ digits)
-
 -- the byte may stand in a name
 abbrev pub is_name_byte : ℕ → Bool
-is_name_byte byte = nat_le 32 byte && nat_le byte 126
+is_name_byte byte = is_printable byte
 
 -- the name and the arity are right for the kind
 abbrev pub suits : Kind → List ℕ → ℕ → Bool

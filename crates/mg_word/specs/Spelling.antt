@@ -1,10 +1,11 @@
 -- The one spelling of symbols, words and literals, as bytes.
-use Rattle.std.specs.Prelude.{ℕ, zero, suc, ◌+◌, Bool, true, false, ◌&&◌, ◌||◌, nat_eq, nat_lt, nat_le, List, [], ◌∷◌, ◌++◌, map, length, Option, Some, slice_get, if◌then◌else◌}
+use Rattle.std.specs.Prelude.{ℕ, zero, suc, ◌+◌, Bool, true, ◌&&◌, ◌||◌, nat_eq, nat_lt, List, [], ◌∷◌, ◌++◌, map, length, Option, Some, slice_get, if◌then◌else◌}
 use Rattle.std.specs.List.{list_all, flat_map}
 use Rattle.std.specs.Option.{option_map, option_to_list}
 use Rattle.std.specs.Fmt.{decimal}
+use Rattle.ascii_text.specs.Bytes.{begins}
+pub use Rattle.ascii_text.specs.Bytes.{is_lower_letter, is_upper_letter, is_word_byte}
 use Rattle.mg_word.specs.Table.{Symbol}
-use Rattle.mg_word.specs.Facts.{is_digit}
 use Rattle.mg_word.specs.declared.symbol.Kind.{Kind}
 use Rattle.mg_word.specs.declared.symbol.Kind.TheVariants.{Word, Integer, Distinct}
 use Rattle.mg_word.specs.declared.item.Item.{Item}
@@ -12,22 +13,9 @@ use Rattle.mg_word.specs.declared.item.Item.TheVariants.{Sym, Var}
 use Rattle.mg_word.specs.declared.lit.Lit.{Lit}
 use Rattle.mg_word.specs.declared.lit.PatLit.{PatLit}
 
--- a lower-case letter
-abbrev pub is_lower_letter : ℕ → Bool
-is_lower_letter byte = nat_le 97 byte && nat_le byte 122
-
--- an upper-case letter
-abbrev pub is_upper_letter : ℕ → Bool
-is_upper_letter byte = nat_le 65 byte && nat_le byte 90
-
--- a letter, a digit or `_`
-abbrev pub is_word_byte : ℕ → Bool
-is_word_byte byte = is_lower_letter byte || (is_upper_letter byte || (is_digit byte || nat_eq byte 95))
-
 -- it begins with a lower-case letter
 abbrev pub begins_lower : List ℕ → Bool
-begins_lower [] = false
-begins_lower (first ∷ bytes) = is_lower_letter first
+begins_lower name = begins is_lower_letter name
 
 -- a lower-case letter, and then letters, digits and `_`
 abbrev pub is_lower_word : List ℕ → Bool

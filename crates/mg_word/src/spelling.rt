@@ -6,17 +6,8 @@ ghost use Rattle.mg_word.specs.Words.{fits, pattern_fits};
 ghost use Rattle.mg_word.specs.Spelling as spelling;
 
 use crate::{Item, Kind, Lit, NoMemory, PatLit, Pattern, Symbols, Text, Word};
+use ascii_text::is_word_byte;
 use std::alloc::Global;
-
-// Whether the byte may stand in a bare word.
-fn is_word_byte(byte: u8) -> bool
-    ensures { result ≡ spelling.is_word_byte byte }
-{
-    (b'a' <= byte && byte <= b'z')
-        || (b'A' <= byte && byte <= b'Z')
-        || (b'0' <= byte && byte <= b'9')
-        || byte == b'_'
-}
 
 // Whether the name begins with a lower-case letter.
 fn begins_lower(name: &[u8]) -> bool
@@ -24,7 +15,7 @@ fn begins_lower(name: &[u8]) -> bool
 {
     match name {
         [] => false,
-        [first, ..] => b'a' <= *first && *first <= b'z',
+        [first, ..] => first.is_ascii_lowercase(),
     }
 }
 

@@ -2,13 +2,12 @@
 use Rattle.std.proofs.Common.{◌≡◌, ℕ, zero, suc, ◌+◌, Bool, true, false, true≢false, cond, ◌==◌, ◌&&◌, List, [], ◌∷◌, ◌++◌, length, take, drop, Option, Some, None, refl, ap, sym, ◌∙◌, arith, length-append}
 use Rattle.std.specs.Option.{option_map}
 use Rattle.std.proofs.lemmas.Bool.{and_parts, and_from, eqb-true, eq-eqb, not-false}
-use Rattle.tptp_lexer.specs.Bytes.{is_in_line, begins}
+use Rattle.ascii_text.specs.Bytes.{is_in_line, begins}
 use Rattle.tptp_lexer.specs.Comments.{line_len, before_close}
 use Rattle.tptp_lexer.specs.Cuts.{EndsLine, HoldsClose}
 use Rattle.tptp_lexer.proofs.Runs.{run-ends}
 
 ends_by : (bytes : List ℕ) → begins is_in_line bytes ≡ false → EndsLine bytes
-unfolding is_in_line
 ends_by [] e = tt
 ends_by (b ∷ bs) e = eqb-true b 10 (not-false (b == 10) e)
 

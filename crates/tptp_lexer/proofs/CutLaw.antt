@@ -1,7 +1,7 @@
 -- The tokens of a text cut it.
 use Rattle.std.proofs.Common.{◌≡◌, ◌≢◌, inl, inr, true, ℕ, zero, suc, ◌+◌, ◌≤◌, ◌<◌, List, [], ◌∷◌, ◌++◌, length, take, drop, Option, Some, None, refl, ap, sym, subst, ◌∙◌, arith, append_assoc, length-append, length-take, length-drop}
 use Rattle.std.proofs.lemmas.List.{take-append-drop, append-nil, nil_from_length}
-use Rattle.tptp_lexer.specs.Bytes.{is_white}
+use Rattle.ascii_text.specs.Bytes.{is_white}
 use Rattle.tptp_lexer.specs.Comments.{line_len, before_close}
 use Rattle.tptp_lexer.specs.Pieces.{block_piece, slash_piece, piece_from, piece_of}
 use Rattle.tptp_lexer.specs.Spots.{passed, first_spot}

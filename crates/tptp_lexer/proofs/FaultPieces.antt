@@ -1,7 +1,7 @@
 -- A piece that is a fault stands where the table says.
 use Rattle.std.proofs.Common.{◌≡◌, ◌⊎◌, inl, inr, ℕ, ◌+◌, true, false, ◌==◌, List, [], ◌∷◌, length, take, drop, Option, Some, None, refl, ap, ◌∙◌}
 use Rattle.std.proofs.lemmas.Bool.{eqb-true, cond_both}
-use Rattle.tptp_lexer.specs.Bytes.{is_white, is_lower, is_upper, is_visible, is_printable, begins}
+use Rattle.ascii_text.specs.Bytes.{is_white, is_lower_letter, is_upper_letter, is_visible, is_printable, begins}
 use Rattle.tptp_lexer.specs.Comments.{before_close}
 use Rattle.tptp_lexer.specs.Quotes.{before_quote, first_flaw}
 use Rattle.tptp_lexer.specs.Numbers.{starts_number}
@@ -116,8 +116,8 @@ from-faulty : (b : ℕ) (bs : List ℕ) → IsFaulty (b ∷ bs) (piece_from b bs
 unfolding piece_from
 from-faulty b bs =
     cond_both (is_white b) _ _ (IsFaulty (b ∷ bs)) (λ _. tt)
-    (λ w. cond_both (is_lower b) _ _ (IsFaulty (b ∷ bs)) (λ _. tt)
-    (λ _. cond_both (is_upper b) _ _ (IsFaulty (b ∷ bs)) (λ _. tt)
+    (λ w. cond_both (is_lower_letter b) _ _ (IsFaulty (b ∷ bs)) (λ _. tt)
+    (λ _. cond_both (is_upper_letter b) _ _ (IsFaulty (b ∷ bs)) (λ _. tt)
     (λ _. cond_both (starts_number b bs) _ _ (IsFaulty (b ∷ bs)) (λ _. tt) (λ _. mark-faulty b bs w))))
 
 -- where the piece at the front is a fault, the fault stands there

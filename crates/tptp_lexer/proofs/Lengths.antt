@@ -9,14 +9,15 @@ use Rattle.tptp_lexer.specs.Quotes.{before_quote, first_flaw, is_escaped, one_la
 use Rattle.tptp_lexer.specs.Pieces.{name_len}
 use Rattle.tptp_lexer.specs.declared.piece.Flaw.{Flaw}
 use Rattle.tptp_lexer.specs.declared.token.LexKind.TheVariants.{BadByte, BadEscape}
-use Rattle.tptp_lexer.specs.Bytes.{is_digit, is_lower, is_word, is_in_line, is_line_end, is_printable, is_exponent_mark, begins}
+use Rattle.ascii_text.specs.Bytes.{is_digit, is_lower_letter, is_word_byte, is_in_line, is_line_end, is_printable, begins}
+use Rattle.tptp_lexer.specs.Numbers.{is_exponent_mark}
 use Rattle.tptp_lexer.specs.Numbers.{digits_len, marked_len, signed_len, starts_number, exponent_len, decimal_len, number_tail_len, number_rest_len}
 
 pub digits_len-le : (bytes : List ℕ) → digits_len bytes ≤ length bytes
 digits_len-le bytes = prefix_len-le-length is_digit bytes
 
-pub word_len-le : (bytes : List ℕ) → prefix_len is_word bytes ≤ length bytes
-word_len-le bytes = prefix_len-le-length is_word bytes
+pub word_len-le : (bytes : List ℕ) → prefix_len is_word_byte bytes ≤ length bytes
+word_len-le bytes = prefix_len-le-length is_word_byte bytes
 
 pub line_len-le : (bytes : List ℕ) → prefix_len is_in_line bytes ≤ length bytes
 line_len-le bytes = prefix_len-le-length is_in_line bytes
@@ -57,7 +58,7 @@ number_rest_len-le bytes =
 
 pub name_len-le : (bytes : List ℕ) → name_len bytes ≤ length bytes
 name_len-le [] = omega arith
-name_len-le (b ∷ bs) = omega (arith, cond-le (is_lower b) (prefix_len is_word bs) (length bs) (word_len-le bs))
+name_len-le (b ∷ bs) = omega (arith, cond-le (is_lower_letter b) (prefix_len is_word_byte bs) (length bs) (word_len-le bs))
 
 pub begins_some : (test : ℕ → Bool) (bytes : List ℕ) → begins test bytes ≡ true → 1 ≤ length bytes
 begins_some test [] e = cc

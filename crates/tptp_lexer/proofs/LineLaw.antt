@@ -3,7 +3,7 @@ use Rattle.std.proofs.Common.{◌≡◌, inl, inr, ℕ, zero, suc, ◌+◌, ◌�
 use Rattle.std.proofs.lemmas.Bool.{eqb-true, not_from_false}
 use Rattle.std.proofs.lemmas.List.{append-nil, take-append-drop, drop-drop}
 use Rattle.std.proofs.lemmas.List.Sums.{sum_by-append}
-use Rattle.tptp_lexer.specs.Bytes.{is_in_line}
+use Rattle.ascii_text.specs.Bytes.{is_in_line}
 use Rattle.tptp_lexer.specs.Pieces.{piece_of}
 use Rattle.tptp_lexer.specs.Spots.{first_spot, past, passed, spot_at, IsPlace}
 use Rattle.tptp_lexer.specs.Tokens.{Lexed, lexed_at, tokens_of}
@@ -41,7 +41,6 @@ abbrev pub IsSpotBehind : List ℕ → Spot → Type 0
 IsSpotBehind bytes spot = IsPlaceBehind bytes spot.line spot.column
 
 behind-past : (bytes : List ℕ) (spot : Spot) (b : ℕ) → IsSpotBehind bytes spot → IsSpotBehind (bytes ++ b ∷ []) (past spot b)
-unfolding is_in_line
 behind-past bytes spot b here = by (b == 10) refl
   where
     by : (t : Bool) → b == 10 ≡ t → IsPlaceBehind (bytes ++ b ∷ []) (cond t (spot.line + 1) spot.line) (cond t 1 (spot.column + 1))

@@ -3,7 +3,8 @@ use Rattle.std.proofs.Common.{◌≡◌, ◌⊎◌, inl, inr, ℕ, suc, ◌+◌,
 use Rattle.std.proofs.lemmas.Bool.{and_from, or_left, or_right, lt-ltb, eq-eqb}
 use Rattle.std.proofs.lemmas.Bool.Decides.{nat_tests}
 use Rattle.std.proofs.lemmas.List.{drop_at}
-use Rattle.tptp_lexer.specs.Bytes.{is_digit, is_sign, is_exponent_mark, begins}
+use Rattle.ascii_text.specs.Bytes.{is_digit, begins}
+use Rattle.tptp_lexer.specs.Numbers.{is_sign, is_exponent_mark}
 use Rattle.tptp_lexer.specs.Numbers.{marked_len, starts_number, signed_len, exponent_len, decimal_len, number_tail_len, number_rest_len}
 use Rattle.tptp_lexer.specs.Forms.{Each, IsDigits, IsSigned, IsFraction, IsExponent, IsNumber}
 use Rattle.tptp_lexer.proofs.Runs.{run-least, run-exact, none_or_some}
@@ -49,7 +50,6 @@ exponent-least (b ∷ bs) more form =
     rw (form.0, some) (omega (arith, least.1))
 
 exponent-apart : (b : ℕ) → is_exponent_mark b ≡ true → (is_digit b ≡ false) × (b == 46 ≡ false) × (b == 47 ≡ false)
-unfolding is_exponent_mark is_digit
 exponent-apart b e = (grind (arith, nat_tests), grind (arith, nat_tests), grind (arith, nat_tests))
 
 tail-quotient : (bytes : List ℕ) → 0 < marked_len 47 bytes → number_tail_len bytes ≡ marked_len 47 bytes
@@ -99,7 +99,6 @@ rest-exact digits more each ends =
 
 -- the fraction or the exponent, where there is one, begins with no digit
 tail-begins : (fraction exponent more : List ℕ) → IsFraction fraction → IsExponent exponent → 0 < length fraction + length exponent → begins is_digit (fraction ++ (exponent ++ more)) ≡ false
-unfolding is_digit
 tail-begins [] [] more form raised some = absurd (omega arith)
 tail-begins [] (x ∷ xs) more form raised some = (exponent-apart x raised.0).0
 tail-begins (b ∷ bs) exponent more form raised some = rw form.0 refl
@@ -113,7 +112,6 @@ pub record IsLed (text more : List ℕ) : Type 0 where
   pub least : length text ≤ 1 + number_rest_len (rest ++ more)
 
 quotient-led : (whole digits text more : List ℕ) → IsSigned whole → IsDigits digits → text ≡ whole ++ 47 ∷ digits → IsLed text more
-unfolding is_digit
 quotient-led [] digits text more signed form is = absurd signed
 quotient-led (b ∷ bs) digits text more signed form is =
     let apart : (bs ++ 47 ∷ digits) ++ more ≡ bs ++ (47 ∷ (digits ++ more)) = append_assoc bs (47 ∷ digits) more in

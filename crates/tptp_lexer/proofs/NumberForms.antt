@@ -2,7 +2,8 @@
 use Rattle.std.proofs.Common.{◌≡◌, ◌⊎◌, inl, inr, ℕ, suc, ◌+◌, ◌<◌, Bool, true, false, cond, ◌==◌, ◌&&◌, nat_lt, List, [], ◌∷◌, ◌++◌, take, drop, refl, ap, sym, subst, ◌∙◌, arith}
 use Rattle.std.proofs.lemmas.Bool.{and_parts, or_cases, eqb-true, ltb-true, cond_both}
 use Rattle.std.proofs.Math.Seq.{take-add}
-use Rattle.tptp_lexer.specs.Bytes.{is_digit, is_sign, is_exponent_mark, begins}
+use Rattle.ascii_text.specs.Bytes.{is_digit, begins}
+use Rattle.tptp_lexer.specs.Numbers.{is_sign, is_exponent_mark}
 use Rattle.tptp_lexer.specs.Numbers.{digits_len, marked_len, starts_number, signed_len, exponent_len, decimal_len, number_tail_len, number_rest_len}
 use Rattle.tptp_lexer.specs.Forms.{IsDigits, IsSigned, IsFraction, IsExponent, IsNumber}
 use Rattle.tptp_lexer.proofs.Runs.{each-run, none_or_some}

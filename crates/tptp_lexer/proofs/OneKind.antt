@@ -3,7 +3,8 @@ use Rattle.std.proofs.Common.{◌≡◌, ◌⊎◌, inl, inr, ℕ, ◌≤◌, tr
 use Rattle.std.proofs.lemmas.Bool.{or_cases, and_parts, eqb-true}
 use Rattle.std.proofs.lemmas.Bool.Decides.{nat_tests}
 use Rattle.std.proofs.lemmas.List.{append-nil}
-use Rattle.tptp_lexer.specs.Bytes.{is_lower, is_upper, is_digit, is_sign, begins}
+use Rattle.ascii_text.specs.Bytes.{is_lower_letter, is_upper_letter, is_digit, begins}
+use Rattle.tptp_lexer.specs.Numbers.{is_sign}
 use Rattle.tptp_lexer.specs.Numbers.{starts_number}
 use Rattle.tptp_lexer.specs.Forms.{bytes_of, IsLower, HasForm}
 use Rattle.tptp_lexer.specs.declared.token.TokenKind.{TokenKind}
@@ -19,32 +20,28 @@ other_kind b (c ∷ cs) = cond (b == 36) Dollar (cond (b == 33) NotEqual Number)
 -- the only kind whose form a text can have
 abbrev kind_of : List ℕ → TokenKind
 kind_of [] = NotEqual
-kind_of (b ∷ bs) = cond (is_lower b) Lower (cond (is_upper b) Upper (cond (b == 39) Quoted (cond (b == 34) Distinct (other_kind b bs))))
+kind_of (b ∷ bs) = cond (is_lower_letter b) Lower (cond (is_upper_letter b) Upper (cond (b == 39) Quoted (cond (b == 34) Distinct (other_kind b bs))))
 
-upper-not-lower : (b : ℕ) → is_upper b ≡ true → is_lower b ≡ false
-unfolding is_upper is_lower
+upper-not-lower : (b : ℕ) → is_upper_letter b ≡ true → is_lower_letter b ≡ false
 upper-not-lower b e = grind (arith, nat_tests)
 
 -- a byte that begins neither a word nor a quoted form
 record IsOther (b : ℕ) : Type 0 where
-  lower : is_lower b ≡ false
-  upper : is_upper b ≡ false
+  lower : is_lower_letter b ≡ false
+  upper : is_upper_letter b ≡ false
   single : b == 39 ≡ false
   double : b == 34 ≡ false
 
 other-kind : (b : ℕ) (bs : List ℕ) → IsOther b → kind_of (b ∷ bs) ≡ other_kind b bs
 other-kind b bs other = rw (other.lower, other.upper, other.single, other.double) refl
 
-digit-not-lower : (b : ℕ) → is_digit b ≡ true → is_lower b ≡ false
-unfolding is_digit is_lower
+digit-not-lower : (b : ℕ) → is_digit b ≡ true → is_lower_letter b ≡ false
 digit-not-lower b e = grind (arith, nat_tests)
 
-digit-not-upper : (b : ℕ) → is_digit b ≡ true → is_upper b ≡ false
-unfolding is_digit is_upper
+digit-not-upper : (b : ℕ) → is_digit b ≡ true → is_upper_letter b ≡ false
 digit-not-upper b e = grind (arith, nat_tests)
 
 digit-above : (b : ℕ) → is_digit b ≡ true → (m : ℕ) → m ≤ 47 → b == m ≡ false
-unfolding is_digit
 digit-above b e m le = grind (arith, nat_tests)
 
 digit-kind : (b : ℕ) (bs : List ℕ) → is_digit b ≡ true → kind_of (b ∷ bs) ≡ Number
@@ -58,12 +55,10 @@ digit-kind b bs e = other-kind b bs other ∙ by bs
     by (c ∷ cs) = rw (digit-above b e 36 (omega arith), digit-above b e 33 (omega arith)) refl
 
 signs : (bs : List ℕ) → begins is_digit bs ≡ true → (kind_of (43 ∷ bs) ≡ Number) × (kind_of (45 ∷ bs) ≡ Number)
-unfolding is_lower is_upper
 signs [] e = cc
 signs (c ∷ cs) e = (refl, refl)
 
 sign-kind : (b : ℕ) (bs : List ℕ) → is_sign b ≡ true → begins is_digit bs ≡ true → kind_of (b ∷ bs) ≡ Number
-unfolding is_sign
 sign-kind b bs e d = by (or_cases (b == 43) (b == 45) e)
   where
     by : (b == 43 ≡ true) ⊎ (b == 45 ≡ true) → kind_of (b ∷ bs) ≡ Number
@@ -82,20 +77,16 @@ mark-kind b alone =
     other-kind b [] (record { lower = alone.lower; upper = alone.upper; single = alone.single; double = alone.double }) ∙ ap (λ t. cond t Number (Punct b)) alone.digit
 
 quoted-kind : (bs : List ℕ) → (kind_of (39 ∷ bs) ≡ Quoted) × (kind_of (34 ∷ bs) ≡ Distinct)
-unfolding is_lower is_upper
 quoted-kind bs = (refl, refl)
 
 dollar-kind : (name more : List ℕ) → IsLower name → kind_of (36 ∷ (name ++ more)) ≡ Dollar
-unfolding is_lower is_upper
 dollar-kind [] more form = absurd form
 dollar-kind (b ∷ bs) more form = refl
 
 twice-kind : (bs : List ℕ) → kind_of (36 ∷ 36 ∷ bs) ≡ Dollar
-unfolding is_lower is_upper
 twice-kind bs = refl
 
 unequal-kind : kind_of (33 ∷ 61 ∷ []) ≡ NotEqual
-unfolding is_lower is_upper
 unequal-kind = refl
 
 form-kind : (kind : TokenKind) (text : List ℕ) → HasForm kind text → kind_of text ≡ kind

@@ -4,7 +4,8 @@ use Rattle.std.specs.List.{prefix_len}
 use Rattle.std.proofs.lemmas.Bool.{and_parts, or_cases, or_parts, not-true, cond_both}
 use Rattle.std.proofs.lemmas.Bool.Decides.{nat_tests}
 use Rattle.std.proofs.lemmas.List.{take_at}
-use Rattle.tptp_lexer.specs.Bytes.{is_white, is_lower, is_upper, is_digit, is_sign, is_word, is_visible, is_printable, begins}
+use Rattle.ascii_text.specs.Bytes.{is_white, is_lower_letter, is_upper_letter, is_digit, is_word_byte, is_visible, is_printable, begins}
+use Rattle.tptp_lexer.specs.Numbers.{is_sign}
 use Rattle.tptp_lexer.specs.Comments.{line_len, before_close}
 use Rattle.tptp_lexer.specs.Numbers.{starts_number, number_rest_len}
 use Rattle.tptp_lexer.specs.Pieces.{block_piece, slash_piece, quoted_piece, name_len, named_piece, dollar_piece, bang_piece, mark_piece, piece_from, piece_of}
@@ -33,34 +34,30 @@ IsAtLeast size (Blank n) = Unit {0}
 IsAtLeast size (Fault kind n) = MayHide kind
 IsAtLeast size End = ⊥
 
-lower-apart : (b : ℕ) → is_lower b ≡ true → is_white b ≡ false
-unfolding is_lower is_white
+lower-apart : (b : ℕ) → is_lower_letter b ≡ true → is_white b ≡ false
 lower-apart b e = grind (arith, nat_tests)
 
-upper-apart : (b : ℕ) → is_upper b ≡ true → (is_white b ≡ false) × (is_lower b ≡ false)
-unfolding is_upper is_lower is_white
+upper-apart : (b : ℕ) → is_upper_letter b ≡ true → (is_white b ≡ false) × (is_lower_letter b ≡ false)
 upper-apart b e = (grind (arith, nat_tests), grind (arith, nat_tests))
 
-digit-apart : (b : ℕ) → is_digit b ≡ true → (is_white b ≡ false) × (is_lower b ≡ false) × (is_upper b ≡ false)
-unfolding is_digit is_upper is_lower is_white
+digit-apart : (b : ℕ) → is_digit b ≡ true → (is_white b ≡ false) × (is_lower_letter b ≡ false) × (is_upper_letter b ≡ false)
 digit-apart b e = (grind (arith, nat_tests), grind (arith, nat_tests), grind (arith, nat_tests))
 
-sign-apart : (b : ℕ) → is_sign b ≡ true → (is_white b ≡ false) × (is_lower b ≡ false) × (is_upper b ≡ false)
-unfolding is_sign is_upper is_lower is_white
+sign-apart : (b : ℕ) → is_sign b ≡ true → (is_white b ≡ false) × (is_lower_letter b ≡ false) × (is_upper_letter b ≡ false)
 sign-apart b e = (grind (arith, nat_tests), grind (arith, nat_tests), grind (arith, nat_tests))
 
-number-apart : (b : ℕ) (bs : List ℕ) → starts_number b bs ≡ true → (is_white b ≡ false) × (is_lower b ≡ false) × (is_upper b ≡ false)
+number-apart : (b : ℕ) (bs : List ℕ) → starts_number b bs ≡ true → (is_white b ≡ false) × (is_lower_letter b ≡ false) × (is_upper_letter b ≡ false)
 number-apart b bs e = by (or_cases (is_digit b) (is_sign b && begins is_digit bs) e)
   where
-    by : (is_digit b ≡ true) ⊎ (is_sign b && begins is_digit bs ≡ true) → (is_white b ≡ false) × (is_lower b ≡ false) × (is_upper b ≡ false)
+    by : (is_digit b ≡ true) ⊎ (is_sign b && begins is_digit bs ≡ true) → (is_white b ≡ false) × (is_lower_letter b ≡ false) × (is_upper_letter b ≡ false)
     by (inl d) = digit-apart b d
     by (inr s) = sign-apart b (and_parts (is_sign b) (begins is_digit bs) s).0
 
-pub piece-lower : (b : ℕ) (bs : List ℕ) → is_lower b ≡ true → piece_from b bs ≡ Lexeme Lower (1 + prefix_len is_word bs)
+pub piece-lower : (b : ℕ) (bs : List ℕ) → is_lower_letter b ≡ true → piece_from b bs ≡ Lexeme Lower (1 + prefix_len is_word_byte bs)
 unfolding piece_from
 piece-lower b bs e = rw (lower-apart b e, e) refl
 
-pub piece-upper : (b : ℕ) (bs : List ℕ) → is_upper b ≡ true → piece_from b bs ≡ Lexeme Upper (1 + prefix_len is_word bs)
+pub piece-upper : (b : ℕ) (bs : List ℕ) → is_upper_letter b ≡ true → piece_from b bs ≡ Lexeme Upper (1 + prefix_len is_word_byte bs)
 unfolding piece_from
 piece-upper b bs e = let apart = upper-apart b e in rw (apart.0, apart.1, e) refl
 
@@ -69,38 +66,38 @@ unfolding piece_from
 piece-number b bs e = let apart = number-apart b bs e in rw (apart.0, apart.1, apart.2, e) refl
 
 pub piece-single : (bs : List ℕ) → piece_from 39 bs ≡ quoted_piece Quoted 39 bs
-unfolding piece_from mark_piece is_white is_lower is_upper is_digit is_sign
+unfolding piece_from mark_piece
 piece-single bs = refl
 
 pub piece-double : (bs : List ℕ) → piece_from 34 bs ≡ quoted_piece Distinct 34 bs
-unfolding piece_from mark_piece is_white is_lower is_upper is_digit is_sign
+unfolding piece_from mark_piece
 piece-double bs = refl
 
 pub piece-dollar : (bs : List ℕ) → piece_from 36 bs ≡ dollar_piece bs
-unfolding piece_from mark_piece is_white is_lower is_upper is_digit is_sign
+unfolding piece_from mark_piece
 piece-dollar bs = refl
 
 pub piece-bang : (bs : List ℕ) → piece_from 33 bs ≡ bang_piece bs
-unfolding piece_from mark_piece is_white is_lower is_upper is_digit is_sign
+unfolding piece_from mark_piece
 piece-bang bs = refl
 
 pub piece-slash : (bs : List ℕ) → piece_from 47 bs ≡ slash_piece bs
-unfolding piece_from mark_piece is_white is_lower is_upper is_digit is_sign
+unfolding piece_from mark_piece
 piece-slash bs = refl
 
 pub piece-percent : (bs : List ℕ) → piece_from 37 bs ≡ Blank (1 + line_len bs)
-unfolding piece_from mark_piece is_white is_lower is_upper is_digit is_sign
+unfolding piece_from mark_piece
 piece-percent bs = refl
 
-lower-bound : (text more : List ℕ) → IsWordOf is_lower text → IsAtLeast (length text) (piece_of (text ++ more))
+lower-bound : (text more : List ℕ) → IsWordOf is_lower_letter text → IsAtLeast (length text) (piece_of (text ++ more))
 lower-bound [] more form = absurd form
 lower-bound (b ∷ bs) more form =
-    subst (IsAtLeast (suc (length bs))) (sym (piece-lower b (bs ++ more) form.0)) (omega (arith, run-least is_word bs more form.1))
+    subst (IsAtLeast (suc (length bs))) (sym (piece-lower b (bs ++ more) form.0)) (omega (arith, run-least is_word_byte bs more form.1))
 
-upper-bound : (text more : List ℕ) → IsWordOf is_upper text → IsAtLeast (length text) (piece_of (text ++ more))
+upper-bound : (text more : List ℕ) → IsWordOf is_upper_letter text → IsAtLeast (length text) (piece_of (text ++ more))
 upper-bound [] more form = absurd form
 upper-bound (b ∷ bs) more form =
-    subst (IsAtLeast (suc (length bs))) (sym (piece-upper b (bs ++ more) form.0)) (omega (arith, run-least is_word bs more form.1))
+    subst (IsAtLeast (suc (length bs))) (sym (piece-upper b (bs ++ more) form.0)) (omega (arith, run-least is_word_byte bs more form.1))
 
 number-bound : (text more : List ℕ) → HasForm Number text → IsAtLeast (length text) (piece_of (text ++ more))
 number-bound text more form =
@@ -121,7 +118,6 @@ form-size : (quote : ℕ) (items : List Item) → length (quote ∷ (bytes_of it
 form-size quote items = omega (arith, length-append (bytes_of items) (quote ∷ []))
 
 pub printable-quotes : (is_printable 39 ≡ true) × (is_printable 34 ≡ true)
-unfolding is_printable
 printable-quotes = (refl, refl)
 
 single-bound : (text more : List ℕ) → IsQuotedBy 39 text → IsAtLeast (length text) (piece_of (text ++ more))
@@ -148,10 +144,9 @@ named-bound marks size name some le = rw (above_one name (omega arith)) (omega a
 
 name-least : (text more : List ℕ) → IsLower text → (1 ≤ length text) × (length text ≤ name_len (text ++ more))
 name-least [] more form = absurd form
-name-least (b ∷ bs) more form = (omega arith, rw form.0 (omega (arith, run-least is_word bs more form.1)))
+name-least (b ∷ bs) more form = (omega arith, rw form.0 (omega (arith, run-least is_word_byte bs more form.1)))
 
-lower-no-dollar : (b : ℕ) → is_lower b ≡ true → b == 36 ≡ false
-unfolding is_lower
+lower-no-dollar : (b : ℕ) → is_lower_letter b ≡ true → b == 36 ≡ false
 lower-no-dollar b e = grind (arith, nat_tests)
 
 one-bound : (name more : List ℕ) → IsLower name → IsAtLeast (1 + length name) (dollar_piece (name ++ more))
@@ -208,8 +203,8 @@ bang-one bs = cond_both (begins (λ b. b == 61) bs) (Lexeme NotEqual 2) (Lexeme 
 -- what a byte that may stand alone is, and is not
 pub record StandsAlone (b : ℕ) : Type 0 where
   pub visible : is_visible b ≡ true
-  pub lower : is_lower b ≡ false
-  pub upper : is_upper b ≡ false
+  pub lower : is_lower_letter b ≡ false
+  pub upper : is_upper_letter b ≡ false
   pub digit : is_digit b ≡ false
   pub double : b == 34 ≡ false
   pub single : b == 39 ≡ false
@@ -218,13 +213,13 @@ pub record StandsAlone (b : ℕ) : Type 0 where
 pub mark-parts : (b : ℕ) → is_mark b ≡ true → StandsAlone b
 unfolding is_mark
 mark-parts b e =
-    let halves = and_parts (is_visible b) (not (is_lower b || is_upper b || is_digit b || b == 34 || b == 37 || b == 39)) e in
-    let none = not-true (is_lower b || is_upper b || is_digit b || b == 34 || b == 37 || b == 39) halves.1 in
-    let last = or_parts (is_lower b || is_upper b || is_digit b || b == 34 || b == 37) (b == 39) none in
-    let more = or_parts (is_lower b || is_upper b || is_digit b || b == 34) (b == 37) last.0 in
-    let quotes = or_parts (is_lower b || is_upper b || is_digit b) (b == 34) more.0 in
-    let digits = or_parts (is_lower b || is_upper b) (is_digit b) quotes.0 in
-    let letters = or_parts (is_lower b) (is_upper b) digits.0 in
+    let halves = and_parts (is_visible b) (not (is_lower_letter b || is_upper_letter b || is_digit b || b == 34 || b == 37 || b == 39)) e in
+    let none = not-true (is_lower_letter b || is_upper_letter b || is_digit b || b == 34 || b == 37 || b == 39) halves.1 in
+    let last = or_parts (is_lower_letter b || is_upper_letter b || is_digit b || b == 34 || b == 37) (b == 39) none in
+    let more = or_parts (is_lower_letter b || is_upper_letter b || is_digit b || b == 34) (b == 37) last.0 in
+    let quotes = or_parts (is_lower_letter b || is_upper_letter b || is_digit b) (b == 34) more.0 in
+    let digits = or_parts (is_lower_letter b || is_upper_letter b) (is_digit b) quotes.0 in
+    let letters = or_parts (is_lower_letter b) (is_upper_letter b) digits.0 in
     record { visible = halves.0; lower = letters.0; upper = letters.1; digit = digits.1; double = quotes.1; single = last.1 }
 
 mark-one : (b : ℕ) (bs : List ℕ) → StandsAlone b → IsAtLeast 1 (mark_piece b bs)
@@ -242,8 +237,8 @@ from-one : (b : ℕ) (bs : List ℕ) → StandsAlone b → IsAtLeast 1 (piece_fr
 unfolding piece_from
 from-one b bs alone =
     cond_both (is_white b) _ _ (IsAtLeast 1) (λ _. tt)
-    (λ _. cond_both (is_lower b) _ _ (IsAtLeast 1) (λ _. omega arith)
-    (λ _. cond_both (is_upper b) _ _ (IsAtLeast 1) (λ _. omega arith)
+    (λ _. cond_both (is_lower_letter b) _ _ (IsAtLeast 1) (λ _. omega arith)
+    (λ _. cond_both (is_upper_letter b) _ _ (IsAtLeast 1) (λ _. omega arith)
     (λ _. cond_both (starts_number b bs) _ _ (IsAtLeast 1) (λ _. omega arith) (λ _. mark-one b bs alone))))
 
 punct-bound : (b : ℕ) (text more : List ℕ) → HasForm (Punct b) text → IsAtLeast (length text) (piece_of (text ++ more))

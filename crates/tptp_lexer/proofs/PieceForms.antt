@@ -2,7 +2,8 @@
 use Rattle.std.proofs.Common.{◌≡◌, inl, inr, ℕ, suc, ◌+◌, Bool, true, false, cond, ◌==◌, ◌&&◌, List, [], ◌∷◌, take, drop, Option, Some, None, refl, ap, arith}
 use Rattle.std.specs.List.{prefix_len}
 use Rattle.std.proofs.lemmas.Bool.{or_parts, eqb-true, cond_both}
-use Rattle.tptp_lexer.specs.Bytes.{is_white, is_lower, is_upper, is_digit, is_sign, is_word, is_in_line, is_visible, begins}
+use Rattle.ascii_text.specs.Bytes.{is_white, is_lower_letter, is_upper_letter, is_digit, is_word_byte, is_in_line, is_visible, begins}
+use Rattle.tptp_lexer.specs.Numbers.{is_sign}
 use Rattle.tptp_lexer.specs.Comments.{line_len, before_close}
 use Rattle.tptp_lexer.specs.Quotes.{before_quote, first_flaw}
 use Rattle.tptp_lexer.specs.Numbers.{starts_number}
@@ -47,7 +48,7 @@ block-right b c bs (Some n) p q e =
     rw size (inr (inr (take n bs, close.first, rw (p, q, close.closed) refl)))
 
 slash-right : (b : ℕ) (bs : List ℕ) → b ≡ 47 → IsRight (b ∷ bs) (slash_piece bs)
-unfolding slash_piece is_mark is_visible is_lower is_upper is_digit
+unfolding slash_piece is_mark
 slash-right b [] is = mark-right b [] 47 is refl
 slash-right b (c ∷ bs) is =
     cond_both (c == 42) (block_piece (before_close bs)) (Lexeme (Punct 47) 1) (IsRight (b ∷ c ∷ bs))
@@ -72,19 +73,19 @@ unfolding quoted_piece
 quoted-right kind quote b bs has is = quoted_by-right kind quote b bs (before_quote quote false bs) has is refl
 
 -- a word behind its first byte
-pub word-form : (first : ℕ → Bool) (b : ℕ) (bs : List ℕ) → first b ≡ true → IsWordOf first (take (1 + prefix_len is_word bs) (b ∷ bs))
-word-form first b bs e = let next : 1 + prefix_len is_word bs ≡ suc (prefix_len is_word bs) = omega arith in rw next (e, each-run is_word bs)
+pub word-form : (first : ℕ → Bool) (b : ℕ) (bs : List ℕ) → first b ≡ true → IsWordOf first (take (1 + prefix_len is_word_byte bs) (b ∷ bs))
+word-form first b bs e = let next : 1 + prefix_len is_word_byte bs ≡ suc (prefix_len is_word_byte bs) = omega arith in rw next (e, each-run is_word_byte bs)
 
 name-form : (bytes : List ℕ) → (name_len bytes == 0 ≡ false) → IsLower (take (name_len bytes) bytes)
 name-form [] e = cc
-name-form (b ∷ bs) e = by (is_lower b) refl e
+name-form (b ∷ bs) e = by (is_lower_letter b) refl e
   where
-    by : (t : Bool) → is_lower b ≡ t → (cond t (1 + prefix_len is_word bs) 0 == 0 ≡ false) → IsLower (take (cond t (1 + prefix_len is_word bs) 0) (b ∷ bs))
-    by true is e = word-form is_lower b bs is
+    by : (t : Bool) → is_lower_letter b ≡ t → (cond t (1 + prefix_len is_word_byte bs) 0 == 0 ≡ false) → IsLower (take (cond t (1 + prefix_len is_word_byte bs) 0) (b ∷ bs))
+    by true is e = word-form is_lower_letter b bs is
     by false is e = cc
 
 dollar-alone : (b : ℕ) (bs : List ℕ) → b ≡ 36 → IsRight (b ∷ bs) (Lexeme (Punct 36) 1)
-unfolding is_mark is_visible is_lower is_upper is_digit
+unfolding is_mark
 dollar-alone b bs is = mark-right b bs 36 is refl
 
 dollar-one : (b : ℕ) (bs : List ℕ) → b ≡ 36 → IsRight (b ∷ bs) (named_piece 1 (name_len bs))
@@ -111,7 +112,7 @@ bang-two b [] is e = cc
 bang-two b (c ∷ bs) is e = let same : c ≡ 61 = eqb-true c 61 e in rw (is, same) refl
 
 bang-right : (b : ℕ) (bs : List ℕ) → b ≡ 33 → IsRight (b ∷ bs) (bang_piece bs)
-unfolding bang_piece is_mark is_visible is_lower is_upper is_digit
+unfolding bang_piece is_mark
 bang-right b bs is =
     cond_both (begins (λ c. c == 61) bs) (Lexeme NotEqual 2) (Lexeme (Punct 33) 1) (IsRight (b ∷ bs)) (bang-two b bs is) (λ _. mark-right b bs 33 is refl)
 
@@ -121,11 +122,11 @@ line-right b bs is =
     rw next (inr (inl ((take (line_len bs) bs, each-run is_in_line bs, ap (λ c. c ∷ take (line_len bs) bs) is), line-ends bs)))
 
 -- a visible byte that is none of these may stand alone
-mark_from : (b : ℕ) → is_visible b ≡ true → is_lower b ≡ false → is_upper b ≡ false → is_digit b ≡ false → b == 34 ≡ false → b == 37 ≡ false → b == 39 ≡ false → is_mark b ≡ true
+mark_from : (b : ℕ) → is_visible b ≡ true → is_lower_letter b ≡ false → is_upper_letter b ≡ false → is_digit b ≡ false → b == 34 ≡ false → b == 37 ≡ false → b == 39 ≡ false → is_mark b ≡ true
 unfolding is_mark
 mark_from b v l u d p q r = rw (v, l, u, d, p, q, r) refl
 
-other-right : (b : ℕ) (bs : List ℕ) → is_lower b ≡ false → is_upper b ≡ false → is_digit b ≡ false → IsRight (b ∷ bs) (mark_piece b bs)
+other-right : (b : ℕ) (bs : List ℕ) → is_lower_letter b ≡ false → is_upper_letter b ≡ false → is_digit b ≡ false → IsRight (b ∷ bs) (mark_piece b bs)
 unfolding mark_piece
 other-right b bs l u d =
     cond_both (b == 37) _ _ (IsRight (b ∷ bs)) (λ e. line-right b bs (eqb-true b 37 e))
@@ -140,8 +141,8 @@ from-right : (b : ℕ) (bs : List ℕ) → IsRight (b ∷ bs) (piece_from b bs)
 unfolding piece_from
 from-right b bs =
     cond_both (is_white b) _ _ (IsRight (b ∷ bs)) (λ e. inl (b, e, refl))
-    (λ _. cond_both (is_lower b) _ _ (IsRight (b ∷ bs)) (λ e. word-form is_lower b bs e)
-    (λ l. cond_both (is_upper b) _ _ (IsRight (b ∷ bs)) (λ e. word-form is_upper b bs e)
+    (λ _. cond_both (is_lower_letter b) _ _ (IsRight (b ∷ bs)) (λ e. word-form is_lower_letter b bs e)
+    (λ l. cond_both (is_upper_letter b) _ _ (IsRight (b ∷ bs)) (λ e. word-form is_upper_letter b bs e)
     (λ u. cond_both (starts_number b bs) _ _ (IsRight (b ∷ bs)) (λ e. number-form b bs e)
     (λ n. other-right b bs l u (or_parts (is_digit b) (is_sign b && begins is_digit bs) n).0))))
 

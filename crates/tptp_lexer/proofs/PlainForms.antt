@@ -1,10 +1,10 @@
 -- A number is plain exactly where its text is `0`, or digits that begin with no zero.
-use Rattle.std.proofs.Common.{◌≡◌, ◌≢◌, ◌↔◌, inl, inr, ℕ, suc, ◌<◌, Bool, true, false, true≢false, not, ◌==◌, ◌||◌, List, [], ◌∷◌, length, refl, ap, sym, ◌∙◌, arith}
+use Rattle.std.proofs.Common.{◌≡◌, ◌≢◌, ◌↔◌, inl, inr, ℕ, ◌<◌, Bool, true, nat_le, List, [], ◌∷◌, length, refl, ap, arith}
 use Rattle.std.specs.List.{list_all}
-use Rattle.std.proofs.lemmas.Bool.{and_parts, and_from, eqb-true, eq-eqb}
+use Rattle.std.proofs.lemmas.Bool.{and_parts, and_from, cases_eq}
 use Rattle.std.proofs.lemmas.Bool.Decides.{nat_tests}
-use Rattle.tptp_lexer.specs.Bytes.{is_digit}
-use Rattle.tptp_lexer.specs.Numbers.{is_plain}
+use Rattle.ascii_text.specs.Bytes.{is_digit}
+use Rattle.ascii_text.specs.Numbers.{is_plain_number}
 use Rattle.tptp_lexer.specs.Tokens.{plain_of}
 use Rattle.tptp_lexer.specs.Forms.{Each, IsPlainNumber, IsPlain}
 use Rattle.tptp_lexer.specs.declared.token.TokenKind.{TokenKind}
@@ -18,47 +18,34 @@ all-each : (test : ℕ → Bool) (bytes : List ℕ) → Each test bytes → list
 all-each test [] each = refl
 all-each test (b ∷ bs) each = and_from (test b) (list_all test bs) each.0 (all-each test bs each.1)
 
-not_one : (n : ℕ) → (suc (suc n) == 1) ≡ false
-not_one n = grind (arith, nat_tests)
+above_zero : (b : ℕ) → nat_le 49 b ≡ true → b ≢ 48
+above_zero b above is = grind (arith, nat_tests)
 
-zero_digit : is_digit 48 ≡ true
-unfolding is_digit
-zero_digit = refl
+not_zero : (b : ℕ) → is_digit b ≡ true → b ≢ 48 → nat_le 49 b ≡ true
+not_zero b digit apart = grind (arith, nat_tests)
 
--- what the test of a text says where its first byte is no zero, and where it is
-plain-by : (b : ℕ) (bs : List ℕ) → list_all is_digit (b ∷ bs) ≡ true → (t : Bool) → b == 48 ≡ t → (length (b ∷ bs) == 1 || not t) ≡ true → IsPlainNumber (b ∷ bs)
-plain-by b bs digits false z e =
-    let parts = and_parts (is_digit b) (list_all is_digit bs) digits in
-    inr (parts.0, (λ is. true≢false (sym (eq-eqb b 48 is) ∙ z)), each-all is_digit bs parts.1)
-plain-by b [] digits true z e = inl (ap (λ c. c ∷ []) (eqb-true b 48 z))
-plain-by b (c ∷ bs) digits true z e = absurd (true≢false (sym e ∙ ap (λ t. t || false) (not_one (length bs))))
+-- one digit is `0`, or it is no zero
+one_digit : (b : ℕ) → is_digit b ≡ true → IsPlainNumber (b ∷ [])
+one_digit b digit = elim (cases_eq b 48) [ inl is ↦ inl (ap (λ c. c ∷ []) is) | inr apart ↦ inr (digit, apart, tt) ]
 
-plain-number : (text : List ℕ) → 0 < length text → is_plain text ≡ true → IsPlainNumber text
-unfolding is_plain
-plain-number [] some e = absurd (omega (arith, some))
-plain-number (b ∷ bs) some e =
-    let parts = and_parts (list_all is_digit (b ∷ bs)) (length (b ∷ bs) == 1 || not (b == 48)) e in
-    plain-by b bs parts.0 (b == 48) refl parts.1
+plain-number : (text : List ℕ) → is_plain_number text ≡ true → IsPlainNumber text
+plain-number [] e = cc
+plain-number (b ∷ []) e = one_digit b e
+plain-number (b ∷ c ∷ bs) e =
+    let parts = and_parts (nat_le 49 b) (list_all is_digit (b ∷ c ∷ bs)) e in
+    let digits = and_parts (is_digit b) (list_all is_digit (c ∷ bs)) parts.1 in
+    inr (digits.0, above_zero b parts.0, each-all is_digit (c ∷ bs) digits.1)
 
-or_right : (x : Bool) → (x || true) ≡ true
-or_right true = refl
-or_right false = refl
-
-no_zero : (b : ℕ) (t : Bool) → b == 48 ≡ t → b ≢ 48 → not t ≡ true
-no_zero b true z apart = absurd (apart (eqb-true b 48 z))
-no_zero b false z apart = refl
-
-number-plain : (text : List ℕ) → IsPlainNumber text → is_plain text ≡ true
-unfolding is_plain
+number-plain : (text : List ℕ) → IsPlainNumber text → is_plain_number text ≡ true
 number-plain [] form = absurd form
-number-plain (b ∷ bs) (inl is) = ap is_plain is ∙ and_from (list_all is_digit (48 ∷ [])) true (and_from (is_digit 48) true zero_digit refl) refl
-number-plain (b ∷ bs) (inr (digit, apart, digits)) =
-    and_from (list_all is_digit (b ∷ bs)) (length (b ∷ bs) == 1 || not (b == 48)) (and_from (is_digit b) (list_all is_digit bs) digit (all-each is_digit bs digits))
-    (ap (λ t. length (b ∷ bs) == 1 || t) (no_zero b (b == 48) refl apart) ∙ or_right (length (b ∷ bs) == 1))
+number-plain (b ∷ bs) (inl is) = ap is_plain_number is
+number-plain (b ∷ []) (inr (digit, apart, digits)) = digit
+number-plain (b ∷ c ∷ bs) (inr (digit, apart, digits)) =
+    and_from (nat_le 49 b) (list_all is_digit (b ∷ c ∷ bs)) (not_zero b digit apart) (and_from (is_digit b) (list_all is_digit (c ∷ bs)) digit (all-each is_digit (c ∷ bs) digits))
 
 -- a token with some text is plain exactly where its kind and its text say so
 pub plain-form : (kind : TokenKind) (text : List ℕ) → 0 < length text → (plain_of kind text ≡ true) ↔ IsPlain kind text
-plain-form Number text some = (plain-number text some, number-plain text)
+plain-form Number text some = (plain-number text, number-plain text)
 plain-form Lower text some = (λ e. cc, λ h. absurd h)
 plain-form Upper text some = (λ e. cc, λ h. absurd h)
 plain-form Quoted text some = (λ e. cc, λ h. absurd h)

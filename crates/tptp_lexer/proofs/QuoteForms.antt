@@ -3,7 +3,7 @@ use Rattle.std.proofs.Common.{◌≡◌, ◌⊎◌, inl, inr, ℕ, suc, Bool, tr
 use Rattle.std.specs.Option.{option_map}
 use Rattle.std.proofs.lemmas.Bool.{and_parts, or_cases, or_from, or_parts, eqb-true, not-false, and_right, and_left, eq-eqb, not_from_true}
 use Rattle.std.proofs.lemmas.Bool.Decides.{nat_tests}
-use Rattle.tptp_lexer.specs.Bytes.{is_line_end, is_printable, begins}
+use Rattle.ascii_text.specs.Bytes.{is_line_end, is_printable, begins}
 use Rattle.tptp_lexer.specs.Quotes.{before_quote, is_escaped, first_flaw, one_later}
 use Rattle.tptp_lexer.specs.Forms.{Item, plain, escaped, bytes_of, AreItems}
 use Rattle.tptp_lexer.specs.Faults.{ArePairs}
@@ -146,11 +146,9 @@ pub record IsQuoteMark (quote : ℕ) : Type 0 where
   pub other : 92 == quote ≡ false
 
 pub single : IsQuoteMark 39
-unfolding is_line_end
 single = record { line = refl; other = refl }
 
 pub double : IsQuoteMark 34
-unfolding is_line_end
 double = record { line = refl; other = refl }
 
 pub before_quote-next : (quote : ℕ) (paired : Bool) (b : ℕ) (bs : List ℕ) (n : ℕ) (next : Bool) → is_line_end b ≡ false → b == quote && not paired ≡ false → b == 92 && not paired ≡ next
@@ -159,15 +157,12 @@ unfolding before_quote
 before_quote-next quote paired b bs n next line at pairs later = rw (line, at, pairs, later) refl
 
 printable-stays : (b : ℕ) → is_printable b ≡ true → is_line_end b ≡ false
-unfolding is_printable is_line_end
 printable-stays b e = grind (arith, nat_tests)
 
 pub backslash-stays : is_line_end 92 ≡ false
-unfolding is_line_end
 backslash-stays = refl
 
 escaped-stays : (quote b : ℕ) → IsQuoteMark quote → (b == quote ≡ true) ⊎ (b == 92 ≡ true) → is_line_end b ≡ false
-unfolding is_line_end
 escaped-stays quote b mark (inl e) = subst (λ x. is_line_end x ≡ false) (sym (eqb-true b quote e)) mark.line
 escaped-stays quote b mark (inr e) = subst (λ x. is_line_end x ≡ false) (sym (eqb-true b 92 e)) refl
 
@@ -201,7 +196,6 @@ unfolding first_flaw
 first_flaw-next quote paired b bs next printable escape pairs later = rw (printable, escape, pairs, later) refl
 
 backslash-prints : is_printable 92 ≡ true
-unfolding is_printable
 backslash-prints = refl
 
 pub escaped-prints : (quote b : ℕ) → is_printable quote ≡ true → (b == quote ≡ true) ⊎ (b == 92 ≡ true) → is_printable b ≡ true

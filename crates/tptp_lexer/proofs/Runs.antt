@@ -1,7 +1,7 @@
 -- Runs of bytes of one class at the front of a text.
 use Rattle.std.proofs.Common.{◌⊎◌, inl, inr, ◌<◌, zero, ◌≡◌, ℕ, suc, ◌+◌, ◌≤◌, Bool, true, false, cond, List, [], ◌∷◌, ◌++◌, length, take, drop, refl, arith}
 use Rattle.std.specs.List.{prefix_len}
-use Rattle.tptp_lexer.specs.Bytes.{begins}
+use Rattle.ascii_text.specs.Bytes.{begins}
 use Rattle.tptp_lexer.specs.Forms.{Each}
 
 module _ (test : ℕ → Bool) where

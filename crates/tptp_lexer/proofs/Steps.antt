@@ -2,7 +2,7 @@
 use Rattle.std.proofs.Common.{◌≡◌, ℕ, ◌+◌, ◌<◌, ◌≤◌, suc, Bool, true, false, cond, not, ◌&&◌, ◌==◌, List, length, drop, get_or, Option, Some, None, refl, ◌∙◌, arith}
 use Rattle.std.specs.Option.{option_map}
 use Rattle.std.proofs.lemmas.List.{at_drop_more, at_drop_all}
-use Rattle.tptp_lexer.specs.Bytes.{is_line_end, is_printable, begins}
+use Rattle.ascii_text.specs.Bytes.{is_line_end, is_printable, begins}
 use Rattle.tptp_lexer.specs.Comments.{before_close}
 use Rattle.tptp_lexer.specs.Quotes.{before_quote, is_escaped, first_flaw, one_later}
 use Rattle.tptp_lexer.specs.declared.piece.Flaw.{Flaw}

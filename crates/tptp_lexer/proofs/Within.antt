@@ -2,7 +2,7 @@
 use Rattle.std.proofs.Common.{◌≡◌, ℕ, suc, ◌+◌, ◌≤◌, ◌<◌, false, ◌==◌, Option, Some, None, List, [], ◌∷◌, length, take, drop, refl, arith, length-drop, length-take}
 use Rattle.std.proofs.lemmas.Bool.{cond_both}
 use Rattle.std.proofs.lemmas.Bool.Decides.{nat_tests}
-use Rattle.tptp_lexer.specs.Bytes.{is_white, is_lower, is_upper, is_visible, begins}
+use Rattle.ascii_text.specs.Bytes.{is_white, is_lower_letter, is_upper_letter, is_visible, begins}
 use Rattle.tptp_lexer.specs.Comments.{before_close}
 use Rattle.tptp_lexer.specs.Quotes.{before_quote, first_flaw}
 use Rattle.tptp_lexer.specs.Numbers.{starts_number}
@@ -84,8 +84,8 @@ from-within : (b : ℕ) (bs : List ℕ) → IsWithin (1 + length bs) (piece_from
 unfolding piece_from
 from-within b bs =
     cond_both (is_white b) _ _ (IsWithin (1 + length bs)) (λ _. (omega arith, omega arith))
-    (λ _. cond_both (is_lower b) _ _ (IsWithin (1 + length bs)) (λ _. (omega arith, omega (arith, word_len-le bs)))
-    (λ _. cond_both (is_upper b) _ _ (IsWithin (1 + length bs)) (λ _. (omega arith, omega (arith, word_len-le bs)))
+    (λ _. cond_both (is_lower_letter b) _ _ (IsWithin (1 + length bs)) (λ _. (omega arith, omega (arith, word_len-le bs)))
+    (λ _. cond_both (is_upper_letter b) _ _ (IsWithin (1 + length bs)) (λ _. (omega arith, omega (arith, word_len-le bs)))
     (λ _. cond_both (starts_number b bs) _ _ (IsWithin (1 + length bs)) (λ _. (omega arith, omega (arith, number_rest_len-le bs)))
     (λ _. mark-within b bs))))
 

@@ -2,7 +2,7 @@
 use Rattle.std.specs.Prelude.{ℕ, suc, List, [], ◌∷◌, Option, Some, None, ◌==◌, ◌&&◌, if◌then◌else◌}
 use Rattle.std.specs.Option.{option_map}
 use Rattle.std.specs.List.{prefix_len}
-use Rattle.tptp_lexer.specs.Bytes.{is_in_line, begins}
+use Rattle.ascii_text.specs.Bytes.{is_in_line, begins}
 
 -- how many bytes come before the line feed, or before the end
 abbrev pub line_len : List ℕ → ℕ

@@ -1,7 +1,7 @@
 -- A text as passed-over text and tokens in turn.
 use Rattle.std.specs.Prelude.{◌≡◌, ◌≢◌, ◌⊎◌, ◌↔◌, ℕ, ◌+◌, true, List, [], ◌∷◌, ◌++◌, Option, Some, None, length}
 use Rattle.std.specs.List.{concat}
-use Rattle.tptp_lexer.specs.Bytes.{is_white, is_in_line}
+use Rattle.ascii_text.specs.Bytes.{is_white, is_in_line}
 use Rattle.tptp_lexer.specs.Forms.{Each, HasForm, IsPlain, IsToken}
 use Rattle.tptp_lexer.specs.declared.token.Token.{Token}
 use Rattle.tptp_lexer.specs.declared.token.LexKind.{LexKind}

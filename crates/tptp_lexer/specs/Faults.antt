@@ -1,6 +1,6 @@
 -- Where faults stand, as the table of faults says it, without a scan.
 use Rattle.std.specs.Prelude.{◌≡◌, ◌⊎◌, ℕ, ◌+◌, ◌<◌, false, List, [], ◌∷◌, ◌++◌, Option, Some, None, length, take, drop, ◌==◌, ◌||◌}
-use Rattle.tptp_lexer.specs.Bytes.{is_white, is_visible, is_printable, is_line_end, begins}
+use Rattle.ascii_text.specs.Bytes.{is_white, is_visible, is_printable, is_line_end, begins}
 use Rattle.tptp_lexer.specs.Forms.{Item, plain, escaped, bytes_of, AreItems}
 use Rattle.tptp_lexer.specs.Cuts.{HoldsClose, IsGap}
 use Rattle.tptp_lexer.specs.Lines.{IsPlaceBehind}

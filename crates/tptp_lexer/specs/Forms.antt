@@ -1,6 +1,7 @@
 -- The forms of tokens, as the table of tokens says them, without a scan.
 use Rattle.std.specs.Prelude.{◌≡◌, ◌≢◌, ◌⊎◌, ℕ, Bool, true, false, List, [], ◌∷◌, ◌++◌, ◌==◌, ◌&&◌, ◌||◌, not}
-use Rattle.tptp_lexer.specs.Bytes.{is_lower, is_upper, is_digit, is_word, is_sign, is_exponent_mark, is_printable, is_visible}
+use Rattle.ascii_text.specs.Bytes.{is_lower_letter, is_upper_letter, is_digit, is_word_byte, is_printable, is_visible}
+use Rattle.tptp_lexer.specs.Numbers.{is_sign, is_exponent_mark}
 use Rattle.tptp_lexer.specs.declared.token.TokenKind.{TokenKind}
 use Rattle.tptp_lexer.specs.declared.token.TokenKind.TheVariants.{Lower, Upper, Quoted, Distinct, Dollar, Number, NotEqual, Punct}
 
@@ -12,15 +13,15 @@ Each test (b ∷ bs) = (test b ≡ true) × Each test bs
 -- a byte of this class, then letters, digits and `_`
 abbrev pub IsWordOf : (ℕ → Bool) → List ℕ → Type 0
 IsWordOf first [] = ⊥
-IsWordOf first (b ∷ bs) = (first b ≡ true) × Each is_word bs
+IsWordOf first (b ∷ bs) = (first b ≡ true) × Each is_word_byte bs
 
 -- a lower-case letter, then letters, digits and `_`
 abbrev pub IsLower : List ℕ → Type 0
-IsLower text = IsWordOf is_lower text
+IsLower text = IsWordOf is_lower_letter text
 
 -- an upper-case letter, then letters, digits and `_`
 abbrev pub IsUpper : List ℕ → Type 0
-IsUpper text = IsWordOf is_upper text
+IsUpper text = IsWordOf is_upper_letter text
 
 -- a part of what stands between quotes
 pub data Item : Type 0 where
@@ -103,7 +104,7 @@ IsPlainNumber (b ∷ bs) = (b ∷ bs ≡ 48 ∷ []) ⊎ ((is_digit b ≡ true) �
 
 -- a visible byte that begins no name, no number, no quoted form and no comment to the end of the line
 unfoldable pub is_mark : ℕ → Bool
-is_mark b = is_visible b && not (is_lower b || is_upper b || is_digit b || b == 34 || b == 37 || b == 39)
+is_mark b = is_visible b && not (is_lower_letter b || is_upper_letter b || is_digit b || b == 34 || b == 37 || b == 39)
 
 -- the text has the form of this kind of token
 abbrev pub HasForm : TokenKind → List ℕ → Type 0

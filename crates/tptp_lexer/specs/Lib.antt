@@ -1,12 +1,10 @@
 -- What the contracts of this crate, and of those above it, cite.
 
--- classes of bytes
-pub mod Bytes
 -- how far comments go
 pub mod Comments
 -- where quoted forms are closed, and their faults
 pub mod Quotes
--- how far numbers go, and which are plain
+-- how far numbers go
 pub mod Numbers
 -- the piece that a text begins with
 pub mod Pieces

@@ -1,6 +1,6 @@
 -- Lines and columns, counted from the front of the text.
 use Rattle.std.specs.Prelude.{◌≡◌, ◌⊎◌, ℕ, ◌+◌, List, [], ◌∷◌, ◌++◌, length, take, count_by, ◌==◌}
-use Rattle.tptp_lexer.specs.Bytes.{is_in_line}
+use Rattle.ascii_text.specs.Bytes.{is_in_line}
 use Rattle.tptp_lexer.specs.Forms.{Each}
 use Rattle.tptp_lexer.specs.declared.token.Token.{Token}
 

@@ -1,7 +1,15 @@
 -- How far a number goes.
-use Rattle.std.specs.Prelude.{ℕ, ◌+◌, Bool, List, [], ◌∷◌, drop, length, ◌==◌, nat_lt, ◌&&◌, ◌||◌, not, if◌then◌else◌}
-use Rattle.std.specs.List.{prefix_len, list_all}
-use Rattle.tptp_lexer.specs.Bytes.{is_digit, is_sign, is_exponent_mark, begins}
+use Rattle.std.specs.Prelude.{ℕ, ◌+◌, Bool, List, [], ◌∷◌, drop, ◌==◌, nat_lt, ◌&&◌, ◌||◌, if◌then◌else◌}
+use Rattle.std.specs.List.{prefix_len}
+use Rattle.ascii_text.specs.Bytes.{is_digit, begins}
+
+-- `+` or `-`
+abbrev pub is_sign : ℕ → Bool
+is_sign b = b == 43 || b == 45
+
+-- `e` or `E`
+abbrev pub is_exponent_mark : ℕ → Bool
+is_exponent_mark b = b == 101 || b == 69
 
 -- how many digits the text begins with
 abbrev pub digits_len : List ℕ → ℕ
@@ -37,7 +45,3 @@ number_tail_len bytes = if nat_lt 0 (marked_len 47 bytes) then marked_len 47 byt
 -- the length of a number behind its first byte
 unfoldable pub number_rest_len : List ℕ → ℕ
 number_rest_len bytes = digits_len bytes + number_tail_len (drop (digits_len bytes) bytes)
-
--- digits alone, without a leading zero unless it is `0`
-unfoldable pub is_plain : List ℕ → Bool
-is_plain text = list_all is_digit text && (length text == 1 || not (begins (λ b. b == 48) text))

@@ -1,7 +1,7 @@
 -- The piece that a text begins with: white space, a comment, a token, a fault or the end.
 use Rattle.std.specs.Prelude.{ℕ, ◌+◌, false, List, [], ◌∷◌, Option, Some, None, take, drop, ◌==◌, if◌then◌else◌}
 use Rattle.std.specs.List.{prefix_len}
-use Rattle.tptp_lexer.specs.Bytes.{is_white, is_lower, is_upper, is_word, is_visible, begins}
+use Rattle.ascii_text.specs.Bytes.{is_white, is_lower_letter, is_upper_letter, is_word_byte, is_visible, begins}
 use Rattle.tptp_lexer.specs.Comments.{line_len, before_close}
 use Rattle.tptp_lexer.specs.Quotes.{before_quote, first_flaw}
 use Rattle.tptp_lexer.specs.Numbers.{starts_number, number_rest_len}
@@ -39,7 +39,7 @@ quoted_piece kind quote bytes = quoted_piece_by kind quote bytes (before_quote q
 -- a lower-case letter, and then letters, digits and `_`: how many bytes these are, or 0
 abbrev pub name_len : List ℕ → ℕ
 name_len [] = 0
-name_len (b ∷ bs) = if is_lower b then 1 + prefix_len is_word bs else 0
+name_len (b ∷ bs) = if is_lower_letter b then 1 + prefix_len is_word_byte bs else 0
 
 -- so many `$` before a name of this length, or a `$` alone where there is no name
 abbrev pub named_piece : ℕ → ℕ → Piece
@@ -72,8 +72,8 @@ mark_piece b bs =
 unfoldable pub piece_from : ℕ → List ℕ → Piece
 piece_from b bs =
     if is_white b then Blank 1
-    else (if is_lower b then Lexeme Lower (1 + prefix_len is_word bs)
-    else (if is_upper b then Lexeme Upper (1 + prefix_len is_word bs)
+    else (if is_lower_letter b then Lexeme Lower (1 + prefix_len is_word_byte bs)
+    else (if is_upper_letter b then Lexeme Upper (1 + prefix_len is_word_byte bs)
     else (if starts_number b bs then Lexeme Number (1 + number_rest_len bs)
     else mark_piece b bs)))
 

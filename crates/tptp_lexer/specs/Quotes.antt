@@ -1,7 +1,7 @@
 -- Where a quoted form is closed, and what is wrong inside.
 use Rattle.std.specs.Prelude.{ℕ, suc, Bool, List, [], ◌∷◌, Option, Some, None, ◌==◌, ◌&&◌, ◌||◌, not, if◌then◌else◌}
 use Rattle.std.specs.Option.{option_map}
-use Rattle.tptp_lexer.specs.Bytes.{is_line_end, is_printable, begins}
+use Rattle.ascii_text.specs.Bytes.{is_line_end, is_printable, begins}
 use Rattle.tptp_lexer.specs.declared.piece.Flaw.{Flaw}
 use Rattle.tptp_lexer.specs.declared.token.LexKind.TheVariants.{BadByte, BadEscape}
 

@@ -1,7 +1,7 @@
 -- The tokens of a text, and the end or the fault behind them.
 use Rattle.std.specs.Prelude.{◌≡◌, ℕ, zero, suc, ◌+◌, ◌-◌, ◌<◌, ◌≤◌, Bool, false, List, [], ◌∷◌, Option, Some, None, Result, Ok, Err, length, take, drop, slice_range}
 use Rattle.tptp_lexer.specs.Forms.{HasForm}
-use Rattle.tptp_lexer.specs.Numbers.{is_plain}
+use Rattle.ascii_text.specs.Numbers.{is_plain_number}
 use Rattle.tptp_lexer.specs.Pieces.{piece_of}
 use Rattle.tptp_lexer.specs.Spots.{first_spot, past, passed, spot_at, IsPlace}
 use Rattle.tptp_lexer.specs.declared.token.TokenKind.{TokenKind}
@@ -21,7 +21,7 @@ pub record Lexed : Type 0 where
 
 -- only a number is plain, and only by its text
 abbrev pub plain_of : TokenKind → List ℕ → Bool
-plain_of Number text = is_plain text
+plain_of Number text = is_plain_number text
 plain_of _ text = false
 
 -- the token of this kind and text at this place

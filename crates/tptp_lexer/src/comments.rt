@@ -3,7 +3,7 @@
 ghost use Rattle.std.specs.Prelude.{◌≡◌};
 ghost use Rattle.tptp_lexer.specs.Comments as comment;
 
-use crate::bytes::{begins_with, skip};
+use ascii_text::{begins_with, skip};
 
 /// How many bytes come before the first `*/`.
 pub(crate) fn before_close(bytes: &[u8]) -> Option<usize>

@@ -6,11 +6,10 @@ ghost use Rattle.tptp_lexer.specs.Pieces.{piece_of as piece_at_front, IsSolid};
 ghost use Rattle.tptp_lexer.specs.Spots.{IsPlace};
 ghost use Rattle.tptp_lexer.specs.Tokens.{lexed_at, tokens_of, first_of, rest_of, left_of, start_cursor, token_of, preceded_by, IsAt, IsTokenIn};
 
-use crate::bytes::{front, skip};
-use crate::numbers::is_plain;
 use crate::piece::{Piece, piece_of};
 use crate::spot::{Spot, first_spot, pass};
 use crate::token::{LexFault, LexKind, Token, TokenKind};
+use ascii_text::{front, is_plain_number, skip};
 
 /// How far a text was read, without the text: for those who keep texts and cursors apart.
 #[derive(Clone, Copy, Debug, PartialEq, Eq)]
@@ -120,6 +119,6 @@ fn token_at(spot: Spot, kind: TokenKind, text: &[u8]) -> Token
         end: spot.offset + text.len() as u32,
         line: spot.line,
         column: spot.column,
-        plain: kind == TokenKind::Number && is_plain(text),
+        plain: kind == TokenKind::Number && is_plain_number(text),
     }
 }

@@ -1,7 +1,6 @@
 //! The tokens of TPTP clause files, with their places.
 #![tactic(auto)]
 
-mod bytes;
 mod comments;
 mod cursor;
 mod laws;

@@ -1,19 +1,29 @@
 //! How far a number goes, and whether it is plain.
 
-ghost use Rattle.std.specs.Prelude.{◌≡◌, ◌≤◌, length};
-ghost use Rattle.std.specs.List.{list_all};
-ghost use Rattle.tptp_lexer.specs.Bytes as class;
+ghost use Rattle.std.specs.Prelude.{◌≡◌};
 ghost use Rattle.tptp_lexer.specs.Numbers as number;
 
-use crate::bytes::{
-    begins_digit, begins_with, digits_len, is_digit, is_exponent_mark, is_sign, skip,
-};
+use ascii_text::{begins_with_digit, digits_len, skip};
+
+// Whether the byte is `+` or `-`.
+fn is_sign(byte: u8) -> bool
+    ensures { result ≡ number.is_sign byte }
+{
+    byte == b'+' || byte == b'-'
+}
+
+// Whether the byte is `e` or `E`.
+fn is_exponent_mark(byte: u8) -> bool
+    ensures { result ≡ number.is_exponent_mark byte }
+{
+    byte == b'e' || byte == b'E'
+}
 
 /// Whether the byte begins a number before these.
 pub(crate) fn starts_number(first: u8, after: &[u8]) -> bool
     ensures { result ≡ number.starts_number first after.now }
 {
-    is_digit(first) || (is_sign(first) && begins_digit(after))
+    first.is_ascii_digit() || (is_sign(first) && begins_with_digit(after))
 }
 
 // The length of a mark and the digits behind it, or 0.
@@ -25,7 +35,7 @@ fn marked_len(mark: u8, bytes: &[u8]) -> usize
         return 0;
     }
     let after = skip(bytes, 1);
-    if begins_digit(after) {
+    if begins_with_digit(after) {
         1 + digits_len(after)
     } else {
         0
@@ -80,19 +90,4 @@ pub(crate) fn number_rest_len(after: &[u8]) -> usize
 {
     let digits = digits_len(after);
     digits + number_tail_len(skip(after, digits))
-}
-
-// Whether each byte is a digit.
-fn all_digits(text: &[u8]) -> bool
-    ensures { result ≡ list_all class.is_digit text.now }
-{
-    text.iter().all(|b| is_digit(*b))
-}
-
-/// Whether these are digits alone, without a leading zero unless it is `0`.
-#[tactic(auto, unfolding(crate::specs::Numbers::is_plain))]
-pub(crate) fn is_plain(text: &[u8]) -> bool
-    ensures { result ≡ number.is_plain text.now }
-{
-    all_digits(text) && (text.len() == 1 || !begins_with(text, b'0'))
 }

@@ -3,13 +3,11 @@
 ghost use Rattle.std.specs.Prelude.{◌≡◌, ◌≤◌, length};
 ghost use Rattle.tptp_lexer.specs.Pieces as pieces;
 
-use crate::bytes::{
-    begins_with, front, is_lower, is_upper, is_visible, is_white, line_len, skip, word_len,
-};
 use crate::comments::before_close;
 use crate::numbers::{number_rest_len, starts_number};
 use crate::quotes::{before_quote, first_flaw};
 use crate::token::{LexKind, TokenKind};
+use ascii_text::{begins_with, front, is_white, line_len, skip, word_len};
 
 /// The piece that a text begins with; lengths are in bytes.
 #[derive(Clone, Copy, Debug, PartialEq, Eq)]
@@ -66,7 +64,7 @@ fn quoted_piece(kind: TokenKind, quote: u8, after: &[u8]) -> Piece
 fn name_len(bytes: &[u8]) -> usize
     ensures { result ≡ pieces.name_len bytes.now }
 {
-    if bytes.is_empty() || !is_lower(bytes[0]) {
+    if bytes.is_empty() || !bytes[0].is_ascii_lowercase() {
         return 0;
     }
     1 + word_len(skip(bytes, 1))
@@ -124,7 +122,7 @@ fn mark_piece(first: u8, after: &[u8]) -> Piece
         b'$' => dollar_piece(after),
         b'!' => bang_piece(after),
         _ => {
-            if is_visible(first) {
+            if first.is_ascii_graphic() {
                 Piece::Lexeme(TokenKind::Punct(first), 1)
             } else {
                 Piece::Fault(LexKind::BadByte, 0)
@@ -141,9 +139,9 @@ fn piece_from(first: u8, after: &[u8]) -> Piece
 {
     if is_white(first) {
         Piece::Blank(1)
-    } else if is_lower(first) {
+    } else if first.is_ascii_lowercase() {
         Piece::Lexeme(TokenKind::Lower, 1 + word_len(after))
-    } else if is_upper(first) {
+    } else if first.is_ascii_uppercase() {
         Piece::Lexeme(TokenKind::Upper, 1 + word_len(after))
     } else if starts_number(first, after) {
         Piece::Lexeme(TokenKind::Number, 1 + number_rest_len(after))

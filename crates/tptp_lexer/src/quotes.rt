@@ -1,12 +1,12 @@
 //! Where a quoted form is closed, and the first fault inside.
 
 ghost use Rattle.std.specs.Prelude.{◌≡◌, ◌==◌, ◌||◌, false};
-ghost use Rattle.tptp_lexer.specs.Bytes.{begins};
+ghost use Rattle.ascii_text.specs.Bytes.{begins};
 ghost use Rattle.tptp_lexer.specs.Quotes as quotes;
 
-use crate::bytes::{is_line_end, is_printable, skip};
 use crate::piece::Flaw;
 use crate::token::LexKind;
+use ascii_text::{is_line_end, is_printable, skip};
 
 /// How many bytes come before the closing quote, which stands on the same line.
 pub(crate) fn before_quote(quote: u8, bytes: &[u8]) -> Option<usize>
