@@ -2,24 +2,22 @@
 use Rattle.std.proofs.Common.{◌≡◌, ◌<◌, ◌==◌, ℕ, suc, Bool, true, false, ◌&&◌, ◌||◌, not, List, [], ◌∷◌, ◌++◌, length, nat_le, refl, sym, ap, ◌∙◌, arith}
 use Rattle.std.proofs.lemmas.Bool.Decides.{nat_tests}
 use Rattle.std.specs.List.{list_all}
-use Rattle.mg_word.specs.Facts.{is_name_byte, is_plain_number, is_digit as is_number_digit}
+use Rattle.mg_word.specs.Facts.{is_name_byte, is_plain_number}
 use Rattle.mg_word.proofs.Members.{both_true}
-use Rattle.tptp_lexer.specs.Bytes.{is_lower, is_upper, is_digit, is_word, is_printable}
+use Rattle.ascii_text.specs.Bytes.{is_lower_letter, is_word_byte, is_printable}
 use Rattle.tptp_lexer.specs.Forms.{Each, IsWordOf, Item, plain, escaped, bytes_of, AreItems, HasForm}
-use Rattle.tptp_lexer.specs.Numbers.{is_plain}
 use Rattle.tptp_lexer.specs.Tokens.{plain_of, text_of, IsTokenIn}
 use Rattle.tptp_lexer.specs.declared.token.Token.{Token}
 use Rattle.tptp_lexer.specs.declared.token.TokenKind.{TokenKind}
 use Rattle.tptp_lexer.specs.declared.token.TokenKind.TheVariants.{Lower, Upper, Quoted, Distinct, Dollar, Number, NotEqual, Punct}
-use Rattle.tptp_lexer.proofs.CutLaw.{form-some}
 use Rattle.cnf_grammar.specs.Shapes.{shape_of}
 use Rattle.cnf_grammar.specs.Soundness.{is_clean}
 use Rattle.cnf_reader.specs.Reading.{shape_in}
 
-lower_name : (b : ℕ) → is_lower b ≡ true → is_name_byte b ≡ true
+lower_name : (b : ℕ) → is_lower_letter b ≡ true → is_name_byte b ≡ true
 lower_name b e = grind (arith, nat_tests)
 
-word_name : (b : ℕ) → is_word b ≡ true → is_name_byte b ≡ true
+word_name : (b : ℕ) → is_word_byte b ≡ true → is_name_byte b ≡ true
 word_name b e = grind (arith, nat_tests)
 
 printable_name : (b : ℕ) → is_printable b ≡ true → is_name_byte b ≡ true
@@ -28,11 +26,11 @@ printable_name b e = grind (arith, nat_tests)
 escaped_name : (quote b : ℕ) → is_name_byte quote ≡ true → (b == quote || b == 92) ≡ true → is_name_byte b ≡ true
 escaped_name quote b q e = grind (arith, nat_tests)
 
-words_named : (bs : List ℕ) → Each is_word bs → list_all is_name_byte bs ≡ true
+words_named : (bs : List ℕ) → Each is_word_byte bs → list_all is_name_byte bs ≡ true
 words_named [] each = refl
 words_named (b ∷ bs) (first, rest) = rw (word_name b first) (words_named bs rest)
 
-lower_named : (text : List ℕ) → IsWordOf is_lower text → list_all is_name_byte text ≡ true
+lower_named : (text : List ℕ) → IsWordOf is_lower_letter text → list_all is_name_byte text ≡ true
 lower_named [] form = absurd form
 lower_named (b ∷ bs) (first, rest) = rw (lower_name b first) (words_named bs rest)
 
@@ -44,28 +42,9 @@ items_named quote (escaped b ∷ items) q (is, more) = rw (escaped_name quote b 
 quoted_named : (quote : ℕ) (items : List Item) (text : List ℕ) → is_name_byte quote ≡ true → AreItems quote items → text ≡ quote ∷ (bytes_of items ++ quote ∷ []) → list_all is_name_byte text ≡ true
 quoted_named quote items text q form is = ap (list_all is_name_byte) is ∙ rw q (items_named quote items q form)
 
-digits_same : (bs : List ℕ) → list_all is_digit bs ≡ list_all is_number_digit bs
-digits_same [] = refl
-digits_same (b ∷ bs) = ap (λ t. is_number_digit b && t) (digits_same bs)
-
-more_than_one : (n : ℕ) → (suc (suc n) == 1) ≡ false
-more_than_one n = grind (arith, nat_tests)
-
-plain_number : (text : List ℕ) → 0 < length text → is_plain text ≡ true → is_plain_number text ≡ true
-unfolding is_plain
-plain_number [] some e = absurd (omega (arith, some))
-plain_number (b ∷ []) some e = let all = both_true (list_all is_digit (b ∷ [])) _ e in (both_true (is_digit b) true all.0).0
-plain_number (b ∷ c ∷ bs) some e =
-    let all = both_true (list_all is_digit (b ∷ c ∷ bs)) _ e in
-    let digit = (both_true (is_digit b) _ all.0).0 in
-    rw (above b digit (rw (more_than_one (length bs)) at all.1)) (sym (digits_same (b ∷ c ∷ bs)) ∙ all.0)
-  where
-    above : (b : ℕ) → is_digit b ≡ true → not (b == 48) ≡ true → (nat_le 49 b) ≡ true
-    above b d n = grind (arith, nat_tests)
-
-number_clean : (text : List ℕ) (test : Bool) → 0 < length text → test ≡ is_plain text → is_clean (shape_of Number text test) ≡ true
-number_clean text true some is = plain_number text some (sym is)
-number_clean text false some is = refl
+number_clean : (text : List ℕ) (test : Bool) → test ≡ is_plain_number text → is_clean (shape_of Number text test) ≡ true
+number_clean text true is = sym is
+number_clean text false is = refl
 
 -- a text of the form of its kind is clean
 form_clean : (kind : TokenKind) (text : List ℕ) (test : Bool) → HasForm kind text → test ≡ plain_of kind text → is_clean (shape_of kind text test) ≡ true
@@ -74,7 +53,7 @@ form_clean Upper text test form is = refl
 form_clean Quoted text test (items, form, same) is = quoted_named 39 items text refl form same
 form_clean Distinct text test (items, form, same) is = quoted_named 34 items text refl form same
 form_clean Dollar text test form is = refl
-form_clean Number text test form is = number_clean text test (form-some Number text form) is
+form_clean Number text test form is = number_clean text test is
 form_clean NotEqual text test form is = refl
 form_clean (Punct byte) text test form is = refl
 
