@@ -65,7 +65,7 @@ all_true atoms insts (lit ∷ part) is =
     and_true (lit_true atoms lit) (list_all (lit_true atoms) part) (true_there atoms insts lit each.0) (all_true atoms insts part each.1)
 
 -- a true one among some literals
-some_true : (atoms : List (List ℕ)) (some : List Lit) → list_any (lit_true atoms) some ≡ true → (lit : Lit) × (holds some lit ≡ true) × (lit_true atoms lit ≡ true)
+pub some_true : (atoms : List (List ℕ)) (some : List Lit) → list_any (lit_true atoms) some ≡ true → (lit : Lit) × (holds some lit ≡ true) × (lit_true atoms lit ≡ true)
 some_true atoms [] e = absurd (true≢false (sym e))
 some_true atoms (first ∷ some) e = elim (either_true (lit_true atoms first) (list_any (lit_true atoms) some) e) [
   | inl here ↦ (first, holds_first first some, here)

@@ -25,11 +25,11 @@ use Rattle.mg_meaning.proofs.Room.{IsSmall, AreSmall, room}
 use Rattle.mg_meaning.proofs.LightInsts.{light_violated, least_exists, conclusion_over, below_heaviest}
 
 -- that many for each of the conclusions
-abbrev for_each : ℕ → List Lit → ℕ
+abbrev pub for_each : ℕ → List Lit → ℕ
 for_each cost [] = 0
 for_each cost (lit ∷ lits) = cost + for_each cost lits
 
-for_each_is : (cost : ℕ) (lits : List Lit) → for_each cost lits ≡ length lits * cost
+pub for_each_is : (cost : ℕ) (lits : List Lit) → for_each cost lits ≡ length lits * cost
 for_each_is cost [] = let none_at_all : 0 * cost ≡ 0 = omega arith in sym none_at_all
 for_each_is cost (lit ∷ lits) = let rest = for_each_is cost lits in let whole = suc-mul (length lits) cost in omega (arith, rest, whole)
 
@@ -42,18 +42,18 @@ instances_length : (terms : List (List ℕ)) (lits : List PatLit) → length (li
 instances_length terms [] = refl
 instances_length terms (lit ∷ lits) = ap suc (instances_length terms lits)
 
-inst_most : (problem : ProblemData) (inst : Inst) → IsInstance problem inst → length inst.conclusions ≤ most_conclusions problem.forms
+pub inst_most : (problem : ProblemData) (inst : Inst) → IsInstance problem inst → length inst.conclusions ≤ most_conclusions problem.forms
 inst_most problem inst is =
     let own = form_most problem.forms is.form (numbered_among problem.forms inst.form is.form is.is) in
     let same : length inst.conclusions ≡ length is.form.conclusions = ap (λ (one : Inst). length one.conclusions) is.made ∙ instances_length inst.subst is.form.conclusions in
     omega (arith, own, same)
 
 -- a plain tree of no more than so many extensions
-abbrev WithIn : ProblemData → ℕ → ℕ → List Lit → List Lit → Type 0
+abbrev pub WithIn : ProblemData → ℕ → ℕ → List Lit → List Lit → Type 0
 WithIn problem weight most held barred = (shape : Shape) × IsPlain problem weight held barred shape × (extends_in shape ≤ most)
 
 -- the children, each within the same number
-children_within : (problem : ProblemData) (weight most : ℕ) (held barred conclusions : List Lit) → ((lit : Lit) → Among conclusions lit → (more : List Lit) → WithIn problem weight most (held ++ lit ∷ []) more)
+pub children_within : (problem : ProblemData) (weight most : ℕ) (held barred conclusions : List Lit) → ((lit : Lit) → Among conclusions lit → (more : List Lit) → WithIn problem weight most (held ++ lit ∷ []) more)
     → (children : Shapes) × ArePlain problem weight held barred conclusions children × (extends_in_all children ≤ for_each most conclusions)
 children_within problem weight most held barred [] each = (none, tt, omega arith)
 children_within problem weight most held barred (conclusion ∷ conclusions) each =
@@ -67,7 +67,7 @@ children_within problem weight most held barred (conclusion ∷ conclusions) eac
     by children plain few (inr opened) (shape, is, small) = (child shape children, (opened, is, plain), omega (arith, few, small))
 
 -- the conclusions of a light violated instance are new and small
-new_small : (problem : ProblemData) → IsProblem problem → (weight : ℕ) (held : List Lit) (inst : Inst) → IsInstance problem inst → is_violated held inst ≡ true → weight_of inst ≤ weight → AreSmall (length problem.symbols) weight held → Apart held
+pub new_small : (problem : ProblemData) → IsProblem problem → (weight : ℕ) (held : List Lit) (inst : Inst) → IsInstance problem inst → is_violated held inst ≡ true → weight_of inst ≤ weight → AreSmall (length problem.symbols) weight held → Apart held
     → (lit : Lit) → Among inst.conclusions lit → AreSmall (length problem.symbols) weight (held ++ lit ∷ []) × Apart (held ++ lit ∷ [])
 new_small problem real weight held inst is violated light small apart lit there = (
   (λ one among. elim (among-append held (lit ∷ []) one among) [
@@ -91,13 +91,13 @@ new_small problem real weight held inst is violated light small apart lit there 
     out = not_met inst.conclusions held lit (violated_parts held inst violated).1 (holds_from_among inst.conclusions lit there)
 
 -- some conclusion makes an instance weigh something
-some_weight : (problem : ProblemData) → IsProblem problem → (inst : Inst) → IsInstance problem inst → (lit : Lit) → Among inst.conclusions lit → 0 < weight_of inst
+pub some_weight : (problem : ProblemData) → IsProblem problem → (inst : Inst) → IsInstance problem inst → (lit : Lit) → Among inst.conclusions lit → 0 < weight_of inst
 some_weight problem real inst is lit there =
     let over = conclusion_over problem real inst is lit there in
     let most = below_heaviest inst.conclusions lit there in
     omega (arith, over.some, most)
 
-one_more : (most power total : ℕ) → 1 ≤ power → total ≤ most * power → 1 + total ≤ (most + 1) * power
+pub one_more : (most power total : ℕ) → 1 ≤ power → total ≤ most * power → 1 + total ≤ (most + 1) * power
 one_more most power total some few =
     let whole : suc most * power ≡ most * power + power = suc-mul most power in
     let same : (most + 1) * power ≡ most * power + power = ap (λ n. n * power) (add-one most) ∙ whole in

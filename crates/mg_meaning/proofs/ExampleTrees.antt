@@ -1,16 +1,18 @@
 -- Plain trees and a fold, worked by hand.
-use Rattle.std.proofs.Common.{◌≡◌, ℕ, List, [], ◌∷◌, All, Contains, IsTrue, ◌↔◌, refl, subst, arith}
+use Rattle.std.proofs.Common.{◌≡◌, ℕ, List, [], ◌∷◌, All, Contains, IsTrue, ◌↔◌, refl, sym, subst, inl, inr, arith}
+use Rattle.std.specs.declared.cmp.Ordering.TheVariants.{Less, Equal, Greater}
 use Rattle.std.proofs.lemmas.List.Elements.{All-nil, All-cons}
 use Rattle.mg_word.specs.Facts.{ProblemData, IsProblem, IsClause}
 use Rattle.mg_word.specs.declared.item.Item.TheVariants.{Sym, Var}
 use Rattle.mg_word.specs.declared.lit.Lit.{Lit}
 use Rattle.mg_word.specs.declared.form.Inst.{Inst}
-use Rattle.mg_meaning.specs.Violation.{IsLeast, IsSaturated}
+use Rattle.mg_meaning.specs.Violation.{inst_cmp, IsLeast, IsSaturated}
 use Rattle.mg_meaning.specs.Listing.{violated_in}
 use Rattle.mg_meaning.specs.Folding.{folded}
 use Rattle.mg_meaning.specs.PlainTree.{saturated, split, none, shut, child, Plain}
 use Rattle.mg_meaning.specs.Instances.{IsInstance}
 use Rattle.mg_meaning.specs.Violation.{is_violated}
+use Rattle.mg_meaning.proofs.Lists.{among_from, Contains-first}
 use Rattle.mg_meaning.proofs.Listings.{violated_exact}
 use Rattle.mg_meaning.proofs.LeastSteps.{none_listed, least_listed, least_one}
 use Rattle.mg_meaning.proofs.PlainShapes.{heavy_not_plain, heavy_child}
@@ -95,3 +97,48 @@ folded_example : folded (record { form = 1; subst = []; premises = positive (0 �
     (record { inside = positive (1 ∷ []) ∷ []; outside = [] } ∷ record { inside = positive (2 ∷ []) ∷ positive (4 ∷ []) ∷ []; outside = positive (1 ∷ []) ∷ positive (3 ∷ []) ∷ [] } ∷ [])
     ≡ record { inside = positive (0 ∷ []) ∷ positive (4 ∷ []) ∷ []; outside = positive (3 ∷ []) ∷ [] }
 folded_example = refl
+
+-- ---- ~r(X)|p(X); ~s(X)|p(X) at r(b), s(a): of two instances of one weight the form decides, though the other has the lesser term
+
+abbrev tie : ProblemData
+tie = problem_of (word_symbol 97 0 ∷ word_symbol 98 0 ∷ word_symbol 112 1 ∷ word_symbol 114 1 ∷ word_symbol 115 1 ∷ [])
+    (clause_of (minus (Sym 3 ∷ Var 0 ∷ []) ∷ plus (Sym 2 ∷ Var 0 ∷ []) ∷ []) ((88 ∷ []) ∷ []) [] ∷ clause_of (minus (Sym 4 ∷ Var 0 ∷ []) ∷ plus (Sym 2 ∷ Var 0 ∷ []) ∷ []) ((88 ∷ []) ∷ []) [] ∷ [])
+
+each_tie : All (IsClause tie.symbols 1) tie.clauses
+each_tie =
+    All-cons (IsClause tie.symbols 1) (clause_of (minus (Sym 3 ∷ Var 0 ∷ []) ∷ plus (Sym 2 ∷ Var 0 ∷ []) ∷ []) ((88 ∷ []) ∷ []) []) (clause_of (minus (Sym 4 ∷ Var 0 ∷ []) ∷ plus (Sym 2 ∷ Var 0 ∷ []) ∷ []) ((88 ∷ []) ∷ []) [] ∷ [])
+    (clause_of_one tie.symbols (minus (Sym 3 ∷ Var 0 ∷ []) ∷ plus (Sym 2 ∷ Var 0 ∷ []) ∷ []) refl refl refl (omega arith))
+    (All-cons (IsClause tie.symbols 1) (clause_of (minus (Sym 4 ∷ Var 0 ∷ []) ∷ plus (Sym 2 ∷ Var 0 ∷ []) ∷ []) ((88 ∷ []) ∷ []) []) []
+    (clause_of_one tie.symbols (minus (Sym 4 ∷ Var 0 ∷ []) ∷ plus (Sym 2 ∷ Var 0 ∷ []) ∷ []) refl refl refl (omega arith))
+    (All-nil (IsClause tie.symbols 1)))
+
+tie_real : IsProblem tie
+tie_real = problem_is_real tie.symbols tie.clauses refl each_tie (omega arith) refl refl refl (omega arith)
+
+abbrev by_first_form : Inst
+by_first_form = record { form = 1; subst = (1 ∷ []) ∷ []; premises = positive (3 ∷ 1 ∷ []) ∷ []; conclusions = positive (2 ∷ 1 ∷ []) ∷ [] }
+
+abbrev by_second_form : Inst
+by_second_form = record { form = 2; subst = (0 ∷ []) ∷ []; premises = positive (4 ∷ 0 ∷ []) ∷ []; conclusions = positive (2 ∷ 0 ∷ []) ∷ [] }
+
+abbrev tie_held : List Lit
+tie_held = positive (3 ∷ 1 ∷ []) ∷ positive (4 ∷ 0 ∷ []) ∷ []
+
+both_listed : violated_in tie tie_held ≡ by_first_form ∷ by_second_form ∷ []
+both_listed = refl
+
+form_decides : IsLeast tie tie_held by_first_form
+form_decides = record {
+  instance = own.0;
+  violated = own.1;
+  first = λ other real violated less. elim (among_from (violated_in tie tie_held) other ((violated_exact tie tie_real tie_held other).1 (real, violated))) [
+    | inl same ↦ let bad : Equal ≡ Less = subst (λ (one : Inst). inst_cmp one by_first_form ≡ Less) (sym same) less in cc
+    | inr later ↦ elim later [
+      | inl same ↦ let bad : Greater ≡ Less = subst (λ (one : Inst). inst_cmp one by_first_form ≡ Less) (sym same) less in cc
+      | inr bad ↦ bad
+    ]
+  ];
+}
+  where
+    own : IsInstance tie by_first_form × IsTrue (is_violated tie_held by_first_form)
+    own = (violated_exact tie tie_real tie_held by_first_form).0 (Contains-first by_first_form (by_second_form ∷ []))

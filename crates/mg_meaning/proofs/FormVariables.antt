@@ -20,13 +20,13 @@ use Rattle.mg_meaning.proofs.Lists.{Among, among-append, among-map, contains_fro
 use Rattle.mg_meaning.proofs.Bindings.{is_among-append}
 
 -- a number is among two joined lists where it is among one
-among_cases : (xs ys : List ℕ) (k : ℕ) → is_among (xs ++ ys) k ≡ true → (is_among xs k ≡ true) ⊎ (is_among ys k ≡ true)
+pub among_cases : (xs ys : List ℕ) (k : ℕ) → is_among (xs ++ ys) k ≡ true → (is_among xs k ≡ true) ⊎ (is_among ys k ≡ true)
 among_cases xs ys k there = either_true (is_among xs k) (is_among ys k) (sym (is_among-append xs ys k) ∙ there)
 
-among_front : (xs ys : List ℕ) (k : ℕ) → is_among xs k ≡ true → is_among (xs ++ ys) k ≡ true
+pub among_front : (xs ys : List ℕ) (k : ℕ) → is_among xs k ≡ true → is_among (xs ++ ys) k ≡ true
 among_front xs ys k there = is_among-append xs ys k ∙ or_true (is_among xs k) (is_among ys k) (inl there)
 
-among_back : (xs ys : List ℕ) (k : ℕ) → is_among ys k ≡ true → is_among (xs ++ ys) k ≡ true
+pub among_back : (xs ys : List ℕ) (k : ℕ) → is_among ys k ≡ true → is_among (xs ++ ys) k ≡ true
 among_back xs ys k there = is_among-append xs ys k ∙ or_true (is_among xs k) (is_among ys k) (inr there)
 
 -- of a form whose literals are those of a clause, complemented or not: each variable of the clause is in one, and no others are
@@ -151,7 +151,7 @@ numbered_among forms (suc k) form at = go forms k at
     go (first ∷ some) zero at = inl (let same : first ≡ form = cc in same)
     go (first ∷ some) (suc k) at = inr (go some k at)
 
-passing_at : (test : ℕ → Bool) (xs : List ℕ) (k : ℕ) → list_all test xs ≡ true → is_among xs k ≡ true → test k ≡ true
+pub passing_at : (test : ℕ → Bool) (xs : List ℕ) (k : ℕ) → list_all test xs ≡ true → is_among xs k ≡ true → test k ≡ true
 passing_at test [] k all there = absurd (true≢false (sym there))
 passing_at test (x ∷ xs) k all there =
     let parts = both_true (test x) (list_all test xs) all in
@@ -160,7 +160,7 @@ passing_at test (x ∷ xs) k all there =
       | inr later ↦ passing_at test xs k parts.1 later
     ]
 
-passing_form : (test : Form → Bool) (forms : List Form) (form : Form) → list_all test forms ≡ true → Among forms form → test form ≡ true
+pub passing_form : (test : Form → Bool) (forms : List Form) (form : Form) → list_all test forms ≡ true → Among forms form → test form ≡ true
 passing_form test [] form all there = absurd there
 passing_form test (first ∷ forms) form all (inl same) = ap test (sym same) ∙ (both_true (test first) (list_all test forms) all).0
 passing_form test (first ∷ forms) form all (inr later) = passing_form test forms form (both_true (test first) (list_all test forms) all).1 later

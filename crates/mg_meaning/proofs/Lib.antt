@@ -11,11 +11,13 @@ pub mod ExampleProblems
 pub mod ExampleSets
 pub mod ExampleTrees
 pub mod Excluded
+pub mod Flat
 pub mod FoldApplied
 pub mod FormSteps
 pub mod FormTruth
 pub mod FormVariables
 pub mod Fronts
+pub mod FunctionFree
 pub mod Herbrand
 pub mod InstOrders
 pub mod LeastSteps
@@ -24,6 +26,7 @@ pub mod Listings
 pub mod Lists
 pub mod Matchings
 pub mod MinimalLists
+pub mod MinimalModels
 pub mod PartsTried
 pub mod PlainCovers
 pub mod PlainShapes

@@ -1,15 +1,17 @@
 -- Laws of the definitions, each of which a public function of this crate states as its contract.
-use Rattle.std.specs.Prelude.{◌≡◌, ◌↔◌, List, [], map, All, IsTrue}
+use Rattle.std.specs.Prelude.{◌≡◌, ◌↔◌, ℕ, List, [], map, All, IsTrue}
 use Rattle.std.specs.Cmp.{IsTotalOrder}
-use Rattle.std.specs.List.{list_any}
+use Rattle.std.specs.List.{list_any, list_all}
+use Rattle.mg_word.specs.Words.{fits}
 use Rattle.std.specs.declared.cmp.Ordering.TheVariants.{Equal}
 use Rattle.mg_word.specs.Orders.{lits_cmp}
 use Rattle.mg_word.specs.Sets.{is_part, is_rising, is_clash_free}
 use Rattle.mg_word.specs.Facts.{ProblemData, IsProblem}
 use Rattle.mg_word.specs.declared.lit.Lit.{Lit}
 use Rattle.mg_word.specs.declared.form.Inst.{Inst}
-use Rattle.mg_meaning.specs.Truth.{Ground, makes_true, atoms_of}
-use Rattle.mg_meaning.specs.Refuting.{IsClauseInstance, Refutes, ground_of}
+use Rattle.mg_meaning.specs.Truth.{atoms_of}
+use Rattle.mg_meaning.specs.Models.{IsModel, IsMinimalModel, HasNoItems, are_positive, positives_of}
+use Rattle.mg_meaning.specs.Refuting.{Refutes, ground_of}
 use Rattle.mg_meaning.specs.Instances.{are_literals, IsInstance}
 use Rattle.mg_meaning.specs.Satisfaction.{Satisfies}
 use Rattle.mg_meaning.specs.Minimality.{IsMinimal, ListsMinimal}
@@ -45,10 +47,15 @@ SatisfiesWhereSaturated = (set : List Lit) (problem : ProblemData)
 abbrev pub MinimalListIsUnique : Type 0
 MinimalListIsUnique = (problem : ProblemData) (one two : List (List Lit)) → ListsMinimal one problem → ListsMinimal two problem → one ≡ two
 
--- a satisfying set makes each ground instance of each clause true: its positive literals are a Herbrand model
+-- the positive literals of a satisfying set are a Herbrand model of the clauses
 abbrev pub IsHerbrandModel : Type 0
-IsHerbrandModel = (set : List Lit) (problem : ProblemData) → IsProblem problem → Satisfies set problem
-    → (instance : Ground) → IsClauseInstance problem instance → IsTrue (makes_true problem.clauses (atoms_of set) instance)
+IsHerbrandModel = (set : List Lit) (problem : ProblemData) → IsProblem problem → Satisfies set problem → IsModel (atoms_of set) problem
+
+-- without items that choose conclusions: minimal sets hold positive literals alone, and their atoms are exactly the minimal finite Herbrand models
+pub record MinimalAreModels : Type 0 where
+  pub positive : (problem : ProblemData) → IsProblem problem → HasNoItems problem → (set : List Lit) → IsMinimal set problem → IsTrue (are_positive set)
+  pub model : (problem : ProblemData) → IsProblem problem → HasNoItems problem → (set : List Lit) → IsMinimal set problem → IsMinimalModel (atoms_of set) problem
+  pub minimal : (problem : ProblemData) → IsProblem problem → HasNoItems problem → (atoms : List (List ℕ)) → IsTrue (list_all (fits problem.symbols) atoms) → IsMinimalModel atoms problem → IsMinimal (positives_of atoms) problem
 
 -- what instances of the problem exclude, the problem excludes
 abbrev pub InstancesExclude : Type 0

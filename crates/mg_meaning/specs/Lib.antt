@@ -10,6 +10,7 @@ pub mod MatchLaws
 pub mod Matches
 pub mod Matching
 pub mod Minimality
+pub mod Models
 pub mod Parts
 pub mod PlainLaws
 pub mod PlainTree

@@ -11,7 +11,7 @@ use Rattle.mg_meaning.specs.Instances.{IsInstance}
 use Rattle.mg_meaning.specs.Satisfaction.{Satisfies}
 use Rattle.mg_meaning.specs.Violation.{weight_of, IsLeast, IsSaturated}
 use Rattle.mg_meaning.specs.Excluding.{passes, obeys}
-use Rattle.mg_meaning.specs.Bound.{bound, positive_weight}
+use Rattle.mg_meaning.specs.Bound.{bound, positive_weight, HasNoFunctions, greatest_arity}
 use Rattle.mg_meaning.specs.PlainTree.{Shape, IsPlain, Plain, ChildrenCount, insts_in, saturated_in}
 
 -- the plain tree has one number of extensions, or none
@@ -51,3 +51,8 @@ pub record PlainCovers : Type 0 where
   pub insts : (problem : ProblemData) (weight : ℕ) (held barred : List Lit) (shape : Shape) → IsPlain problem weight held barred shape → All (IsInstance problem) (insts_in shape)
   pub covers : (problem : ProblemData) (weight : ℕ) (held barred : List Lit) (shape : Shape) → IsPlain problem weight held barred shape → (set : List Lit) → IsTrue (is_clash_free set) → IsTrue (obeys (insts_in shape) set)
       → IsTrue (passes set held barred) → IsTrue (list_any (λ listed. is_part listed set) (saturated_in held shape))
+
+-- without functions the bound is enough by itself, at the weight of the heaviest atom that there is
+abbrev pub FunctionFreeIsEnough : Type 0
+FunctionFreeIsEnough = (problem : ProblemData) → IsProblem problem → HasNoFunctions problem → (weight : ℕ) → 1 + greatest_arity problem.symbols ≤ weight
+    → (count : ℕ) × Plain problem weight [] [] count × (count ≤ bound problem (1 + greatest_arity problem.symbols))

@@ -1,8 +1,8 @@
 //! The laws of the definitions: each function states one as its contract and does nothing.
 
-ghost use Rattle.mg_meaning.specs.Laws.{OrdersSets, OrdersInstances, RisingIsUnique, LeastIsUnique, SatisfiesWhereSaturated, MinimalListIsUnique, IsHerbrandModel, InstancesExclude, InstancesCover, SatisfyingIsDecided, IncludesMinimal, CoveringNoneRefutes};
+ghost use Rattle.mg_meaning.specs.Laws.{OrdersSets, OrdersInstances, RisingIsUnique, LeastIsUnique, SatisfiesWhereSaturated, MinimalListIsUnique, IsHerbrandModel, MinimalAreModels, InstancesExclude, InstancesCover, SatisfyingIsDecided, IncludesMinimal, CoveringNoneRefutes};
 ghost use Rattle.mg_meaning.specs.FoldingLaws.{FoldExcludes, LeavesExclude, FoldApplies, LeavesApply};
-ghost use Rattle.mg_meaning.specs.PlainLaws.{PlainIsUnique, PlainByTable, HeavyHasNoPlain, PlainCovers, PlainIncludes, BoundIsEnough};
+ghost use Rattle.mg_meaning.specs.PlainLaws.{PlainIsUnique, PlainByTable, HeavyHasNoPlain, PlainCovers, PlainIncludes, BoundIsEnough, FunctionFreeIsEnough};
 ghost use Rattle.mg_meaning.specs.MatchLaws.{MatchesAreExact, MatchesGrow, MatchesAreCounted};
 
 /// The order of sets is total, and only equal sets tie.
@@ -38,6 +38,11 @@ pub fn minimal_list_is_unique()
 /// The positive literals of a satisfying set are a Herbrand model of the clauses.
 pub fn satisfying_is_herbrand_model()
     ensures { IsHerbrandModel }
+{}
+
+/// Without items that choose conclusions the minimal sets are exactly the minimal finite Herbrand models.
+pub fn minimal_sets_are_minimal_models()
+    ensures { MinimalAreModels }
 {}
 
 /// What instances of a problem exclude, no satisfying set passes.
@@ -128,4 +133,9 @@ pub fn plain_tree_includes_saturated()
 /// Where light ground instances refute, the plain tree has at most the bound's number of extensions.
 pub fn bound_is_enough()
     ensures { BoundIsEnough }
+{}
+
+/// Without functions the plain tree has at most the bound's number of extensions.
+pub fn function_free_is_enough()
+    ensures { FunctionFreeIsEnough }
 {}

@@ -5,21 +5,10 @@ ghost use Rattle.mg_word.specs.Sets.{is_proper_part};
 ghost use Rattle.mg_meaning.specs.Minimality.{IsMinimal};
 ghost use Rattle.mg_meaning.specs.Parts.{with_and_without, parts_of, IsSmaller};
 
-use crate::lits::is_part_of;
+use crate::lits::{copy_lits, is_part_of};
 use crate::satisfying::is_satisfying;
 use mg_word::{Items, Lit, NoMemory, Problem};
 use std::alloc::Global;
-
-// An equal list.
-fn copy_lits(alloc: Global, lits: &[Lit]) -> Result<Items<Lit>, NoMemory>
-    ensures { IfOk result (λ made. made ≡ lits.now) }
-{
-    let mut made = Vec::with_capacity(alloc, lits.len())?;
-    for lit in lits {
-        made.push(lit.copy()?)?;
-    }
-    Ok(Items::new(made))
-}
 
 // An equal list behind this literal.
 fn copy_behind(alloc: Global, first: &Lit, lits: &[Lit]) -> Result<Items<Lit>, NoMemory>

@@ -1,5 +1,5 @@
 use Rattle.std.proofs.Common.{◌≡◌, take}
-use Rattle.mg_meaning.proofs.minimal.copy_lits.Given as goal
+use Rattle.mg_meaning.proofs.lits.copy_lits.Given as goal
 
 abbrev pub invariant-loop-lit : goal.invariant-loop-lit
 invariant-loop-lit l = l.made.items ≡ take l.lit-index l.lits
