@@ -13,29 +13,31 @@ use Rattle.tree_checker.specs.declared.doc.TreeLine.{TreeLine}
 use Rattle.tree_checker.specs.declared.doc.TreeLine.TheVariants.{Form as FormLine, Clash, Barred, By}
 use Rattle.proof_tree.specs.DocText.{line_text, NamesForm}
 use Rattle.term_text.specs.Brackets.{listed, after_items, in_brackets}
-use Rattle.proof_tree.specs.DocFaults.{is_no_feed, has_no_feed}
+use Rattle.ascii_text.specs.Bytes.{is_in_line}
+use Rattle.proof_tree.specs.DocFaults.{has_no_feed}
 use Rattle.mg_word.proofs.Members.{both_true, and_true}
-use Rattle.term_text.proofs.Texts.{cut_unique, tails, all_weaker}
-use Rattle.term_text.proofs.Decimals.{decimal_digits}
+use Rattle.ascii_text.proofs.Cuts.{cut_unique}
+use Rattle.term_text.proofs.Texts.{tails, all_weaker}
+use Rattle.ascii_text.proofs.Digits.{decimal_digits}
 use Rattle.term_text.proofs.LookUps.{name_bytes}
 use Rattle.term_text.proofs.SymbolWords.{passes_at}
 
 no_feed_append : (a b : List ℕ) → has_no_feed a ≡ true → has_no_feed b ≡ true → has_no_feed (a ++ b) ≡ true
 no_feed_append [] b first second = second
 no_feed_append (x ∷ a) b first second =
-    let parts = both_true (is_no_feed x) (has_no_feed a) first in
-    and_true (is_no_feed x) (has_no_feed (a ++ b)) parts.0 (no_feed_append a b parts.1 second)
+    let parts = both_true (is_in_line x) (has_no_feed a) first in
+    and_true (is_in_line x) (has_no_feed (a ++ b)) parts.0 (no_feed_append a b parts.1 second)
 
-name_no_feed : (byte : ℕ) → is_name_byte byte ≡ true → is_no_feed byte ≡ true
+name_no_feed : (byte : ℕ) → is_name_byte byte ≡ true → is_in_line byte ≡ true
 name_no_feed byte name = grind (arith, nat_tests)
 
-digit_no_feed : (byte : ℕ) → is_digit byte ≡ true → is_no_feed byte ≡ true
+digit_no_feed : (byte : ℕ) → is_digit byte ≡ true → is_in_line byte ≡ true
 digit_no_feed byte digit = grind (arith, nat_tests)
 
 -- a text with a line feed has one
 pub feed_in : (a b : List ℕ) → has_no_feed (a ++ 10 ∷ b) ≡ true → ⊥
 feed_in [] b none = true≢false (sym none)
-feed_in (x ∷ a) b none = feed_in a b (both_true (is_no_feed x) (has_no_feed (a ++ 10 ∷ b)) none).1
+feed_in (x ∷ a) b none = feed_in a b (both_true (is_in_line x) (has_no_feed (a ++ 10 ∷ b)) none).1
 
 escaped_no_feed : (quote : ℕ) (name : List ℕ) → list_all is_name_byte name ≡ true → has_no_feed (flat_map (escaped quote) name) ≡ true
 escaped_no_feed quote [] good = refl
@@ -43,22 +45,22 @@ escaped_no_feed quote (byte ∷ name) good =
     let parts = both_true (is_name_byte byte) (list_all is_name_byte name) good in
     no_feed_append (escaped quote byte) (flat_map (escaped quote) name) (one (nat_eq byte quote || nat_eq byte 92) (name_no_feed byte parts.0)) (escaped_no_feed quote name parts.1)
   where
-    one : (b : Bool) → is_no_feed byte ≡ true → has_no_feed (if b then 92 ∷ byte ∷ [] else byte ∷ []) ≡ true
-    one true fine = and_true (is_no_feed byte) true fine refl
-    one false fine = and_true (is_no_feed byte) true fine refl
+    one : (b : Bool) → is_in_line byte ≡ true → has_no_feed (if b then 92 ∷ byte ∷ [] else byte ∷ []) ≡ true
+    one true fine = and_true (is_in_line byte) true fine refl
+    one false fine = and_true (is_in_line byte) true fine refl
 
-quoted_no_feed : (quote : ℕ) (name : List ℕ) → is_no_feed quote ≡ true → list_all is_name_byte name ≡ true → has_no_feed (quoted quote name) ≡ true
+quoted_no_feed : (quote : ℕ) (name : List ℕ) → is_in_line quote ≡ true → list_all is_name_byte name ≡ true → has_no_feed (quoted quote name) ≡ true
 quoted_no_feed quote name fine good =
-    and_true (is_no_feed quote) (has_no_feed (flat_map (escaped quote) name ++ quote ∷ [])) fine
-    (no_feed_append (flat_map (escaped quote) name) (quote ∷ []) (escaped_no_feed quote name good) (and_true (is_no_feed quote) true fine refl))
+    and_true (is_in_line quote) (has_no_feed (flat_map (escaped quote) name ++ quote ∷ [])) fine
+    (no_feed_append (flat_map (escaped quote) name) (quote ∷ []) (escaped_no_feed quote name good) (and_true (is_in_line quote) true fine refl))
 
 spelled_no_feed : (kind : Kind) (name : List ℕ) → list_all is_name_byte name ≡ true → has_no_feed (spelled_name kind name) ≡ true
 spelled_no_feed Word name good = by (is_lower_word name)
   where
     by : (b : Bool) → has_no_feed (if b then name else quoted 39 name) ≡ true
-    by true = all_weaker is_name_byte is_no_feed name_no_feed name good
+    by true = all_weaker is_name_byte is_in_line name_no_feed name good
     by false = quoted_no_feed 39 name refl good
-spelled_no_feed Integer name good = all_weaker is_name_byte is_no_feed name_no_feed name good
+spelled_no_feed Integer name good = all_weaker is_name_byte is_in_line name_no_feed name good
 spelled_no_feed Distinct name good = quoted_no_feed 34 name refl good
 
 closing_no_feed : (brackets : List ℕ) → has_no_feed (closing brackets) ≡ true
@@ -99,7 +101,7 @@ list_no_feed table (word ∷ words) named =
 pub line_no_feed : (problem : ProblemData) (line : TreeLine) → list_all is_symbol problem.symbols ≡ true → NamesForm line → has_no_feed (line_text problem.symbols line) ≡ true
 line_no_feed problem (FormLine number words) named form =
     no_feed_append (codes "form ") (decimal number ++ 32 ∷ listed (map (spelled problem.symbols) words)) refl
-    (no_feed_append (decimal number) (32 ∷ listed (map (spelled problem.symbols) words)) (all_weaker is_digit is_no_feed digit_no_feed (decimal number) (decimal_digits number form)) (list_no_feed problem.symbols words named))
+    (no_feed_append (decimal number) (32 ∷ listed (map (spelled problem.symbols) words)) (all_weaker is_digit is_in_line digit_no_feed (decimal number) (decimal_digits number form)) (list_no_feed problem.symbols words named))
 line_no_feed problem (Clash lit) named form = absurd form
 line_no_feed problem (Barred lit) named form = absurd form
 line_no_feed problem (By number) named form = absurd form
@@ -107,5 +109,5 @@ line_no_feed problem (By number) named form = absurd form
 -- a text begins with one line alone
 pub line_unique : (a b r s : List ℕ) → has_no_feed a ≡ true → has_no_feed b ≡ true → a ++ 10 ∷ r ≡ b ++ 10 ∷ s → (a ≡ b) × (r ≡ s)
 line_unique a b r s first second same =
-    let cut = cut_unique is_no_feed a (10 ∷ r) b (10 ∷ s) first second refl refl same in
+    let cut = cut_unique is_in_line a (10 ∷ r) b (10 ∷ s) first second refl refl same in
     (cut.0, tails 10 10 r s cut.1)

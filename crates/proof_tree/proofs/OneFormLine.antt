@@ -24,8 +24,9 @@ use Rattle.proof_tree.specs.DocFaults.{IsFormLine, is_later_line, TreeLineFault}
 use Rattle.term_text.specs.Lists.{IsOnlyList, IsListRead}
 use Rattle.proof_tree.specs.Lines.{IsLineOf, IsOnlySplit, IsNumbered}
 use Rattle.proof_tree.specs.declared.form_lines.LineFault.TheVariants.{Wrong}
-use Rattle.term_text.proofs.Texts.{cut_unique, heads, tails}
-use Rattle.term_text.proofs.Decimals.{decimal_same, decimal_digits}
+use Rattle.ascii_text.proofs.Cuts.{cut_unique}
+use Rattle.term_text.proofs.Texts.{heads, tails}
+use Rattle.ascii_text.proofs.Digits.{decimal_same, decimal_digits}
 use Rattle.term_text.proofs.Listing.{only_none}
 use Rattle.proof_tree.proofs.FormLines.{no_raw_line, line_found}
 use Rattle.term_text.proofs.Once.{list_once}

@@ -8,6 +8,7 @@ use Rattle.mg_word.specs.Spelling.{spelled_symbols}
 use Rattle.mg_word.specs.declared.form.Form.{Form}
 use Rattle.tree_checker.specs.Trees.{conclusions_at}
 use Rattle.tree_checker.specs.Docs.{LineFits, IsKnown}
+use Rattle.ascii_text.specs.Bytes.{is_in_line}
 use Rattle.term_text.specs.OwnTerms.{IsOwnTerm, HasUnknown, AllKnown, IsHeavy}
 use Rattle.term_text.specs.Fronts.{begins_with}
 use Rattle.tree_checker.specs.declared.doc.TreeLine.{TreeLine}
@@ -75,12 +76,9 @@ LineFault problem (in_tree zero) line Rest = Unit {0}
 LineFault problem (in_tree zero) line kind = ⊥
 LineFault problem (in_tree (suc wanted)) line kind = TreeLineFault problem line kind
 
-abbrev pub is_no_feed : ℕ → Bool
-is_no_feed byte = not (nat_eq byte 10)
-
 -- no line feed is in the text
 abbrev pub has_no_feed : List ℕ → Bool
-has_no_feed text = list_all is_no_feed text
+has_no_feed text = list_all is_in_line text
 
 -- the text begins with that line, and goes on behind it
 pub record BeginsWithLine (text line after : List ℕ) : Type 0 where

@@ -4,9 +4,10 @@ ghost use Rattle.std.specs.Prelude.{◌≡◌, List, MatchResult, MatchOption, �
 ghost use Rattle.proof_tree.specs.DocFaults.{is_later_line};
 ghost use Rattle.proof_tree.specs.Lines.{IsOnlyLine, IsNoLine, IsSplitSo, IsOnlySplit, IsNumbered, IsRefused};
 
+use ascii_text::skip;
 use mg_word::{NoMemory, Problem, Subst};
 use std::alloc::Global;
-use term_text::{Buffers, TermList, read_list, skip, starts, take_number};
+use term_text::{Buffers, TermList, read_list, starts, take_number};
 use tree_checker::{DocKind, TreeLine};
 
 /// Why a line was not read.

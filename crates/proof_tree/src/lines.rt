@@ -1,11 +1,12 @@
 //! The lines of a text, without those that begin with `%`.
 
-ghost use Rattle.std.specs.Prelude.{◌≡◌, ◌<◌, MatchResult, IfOk, length, take_while, true};
+ghost use Rattle.std.specs.Prelude.{◌≡◌, ◌<◌, MatchResult, IfOk, length, true};
 ghost use Rattle.proof_tree.specs.DocText.{bare};
-ghost use Rattle.proof_tree.specs.DocFaults.{BeginsWithLine, has_no_feed, is_no_feed};
+ghost use Rattle.proof_tree.specs.DocFaults.{BeginsWithLine, has_no_feed};
 ghost use Rattle.proof_tree.specs.Lines.{EndsSo};
 
-use term_text::{front, skip, starts};
+use ascii_text::{front, line_len, skip};
+use term_text::starts;
 
 /// How a text without a further line ends.
 #[derive(Clone, Copy, Debug, PartialEq, Eq)]
@@ -23,7 +24,7 @@ pub fn next_line(bytes: &[u8]) -> Result<(&[u8], &[u8]), TextEnd>
 {
     let mut rest = bytes;
     loop {
-        let count = line_length(rest);
+        let count = line_len(rest);
         if count == rest.len() {
             return Err(text_end(rest));
         }
@@ -33,13 +34,6 @@ pub fn next_line(bytes: &[u8]) -> Result<(&[u8], &[u8]), TextEnd>
         }
         rest = after;
     }
-}
-
-// How many bytes are before the first line feed.
-fn line_length(bytes: &[u8]) -> usize
-    ensures { result ≡ length (take_while is_no_feed bytes.now) }
-{
-    bytes.iter().take_while(|byte| **byte != b'\n').count()
 }
 
 // How a text without a line feed ends.

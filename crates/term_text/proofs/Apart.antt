@@ -13,8 +13,9 @@ use Rattle.mg_word.proofs.SpelledWords.{words_apart, lits_apart}
 use Rattle.term_text.specs.Words.{IsWordOf, AreLitsOf}
 use Rattle.term_text.specs.Brackets.{after_items, in_brackets, listed}
 use Rattle.term_text.specs.Terms.{ends_term, IsTermAt, NoTerm}
-use Rattle.term_text.proofs.Texts.{stops, cut_unique, heads, tails}
-use Rattle.term_text.proofs.Decimals.{decimal_same, decimal_digits}
+use Rattle.ascii_text.proofs.Cuts.{stops, cut_unique}
+use Rattle.term_text.proofs.Texts.{heads, tails}
+use Rattle.ascii_text.proofs.Digits.{decimal_same, decimal_digits}
 use Rattle.term_text.proofs.NameShapes.{none_other}
 use Rattle.term_text.proofs.Reaching.{starts_ahead}
 use Rattle.term_text.proofs.TermEnds.{stuck_name}

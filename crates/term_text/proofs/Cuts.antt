@@ -1,6 +1,6 @@
 -- Tests that the reading makes, as the definitions say them.
-use Rattle.std.proofs.Common.{◌≡◌, ℕ, ◌≤◌, Bool, true, false, true≢false, ◌&&◌, nat_eq, eqb, List, [], ◌∷◌, ◌++◌, length, take_while, slice_index_or, refl, sym, ap, ◌∙◌, eqb-true, eq-eqb, arith}
-use Rattle.std.specs.List.{list_all, starts_with}
+use Rattle.std.proofs.Common.{◌≡◌, ℕ, ◌≤◌, Bool, true, false, true≢false, ◌&&◌, nat_eq, eqb, List, [], ◌∷◌, ◌++◌, length, slice_index_or, refl, sym, ap, ◌∙◌, eqb-true, eq-eqb, arith}
+use Rattle.std.specs.List.{list_all, prefix_len, starts_with}
 use Rattle.mg_word.specs.Spelling.{is_lower_letter, is_word_byte, is_lower_word}
 use Rattle.term_text.specs.Fronts.{begins_with}
 use Rattle.term_text.proofs.Texts.{cut_whole, whole_cut}
@@ -11,10 +11,10 @@ test_is false false forth back = refl
 test_is true false forth back = absurd (true≢false (sym (forth refl)))
 test_is false true forth back = absurd (true≢false (sym (back refl)))
 
-pub lower_word_tested : (name : List ℕ) → 1 ≤ length name → is_lower_letter (slice_index_or name 0 0) ≡ true → eqb (length (take_while is_word_byte name)) (length name) ≡ is_lower_word name
+pub lower_word_tested : (name : List ℕ) → 1 ≤ length name → is_lower_letter (slice_index_or name 0 0) ≡ true → eqb (prefix_len is_word_byte name) (length name) ≡ is_lower_word name
 lower_word_tested [] some lower = absurd (omega arith)
 lower_word_tested (first ∷ name) some lower =
-    test_is (eqb (length (take_while is_word_byte (first ∷ name))) (length (first ∷ name))) (list_all is_word_byte (first ∷ name))
+    test_is (eqb (prefix_len is_word_byte (first ∷ name)) (length (first ∷ name))) (list_all is_word_byte (first ∷ name))
     (λ same. cut_whole is_word_byte (first ∷ name) (eqb-true _ _ same))
     (λ all. eq-eqb _ _ (whole_cut is_word_byte (first ∷ name) all))
     ∙ sym (ap (λ b. b && list_all is_word_byte (first ∷ name)) lower)

@@ -9,7 +9,8 @@ use Rattle.mg_word.specs.declared.symbol.Kind.{Kind}
 use Rattle.mg_word.specs.declared.symbol.Kind.TheVariants.{Word, Integer, Distinct}
 use Rattle.term_text.specs.Names.{IsNameAt, IsOnlyName, IsQuotedAt, IsOnlyQuoted, NoName, ends_name, quoted_kind, begins_digit}
 use Rattle.mg_word.proofs.Members.{both_true, and_true}
-use Rattle.term_text.proofs.Texts.{not_true, stops, IsCut, cut_unique, all_weaker, heads, tails}
+use Rattle.ascii_text.proofs.Cuts.{stops, IsCut, cut_unique}
+use Rattle.term_text.proofs.Texts.{not_true, all_weaker, heads, tails}
 
 pub record IsBare (bytes : List ℕ) (kind : Kind) (name rest : List ℕ) : Type 0 where
   pub kind_is : kind ≡ Word

@@ -17,8 +17,9 @@ use Rattle.term_text.specs.Words.{most_symbols}
 use Rattle.term_text.specs.Brackets.{after_items, in_brackets}
 use Rattle.term_text.specs.OwnTerms.{are_own_terms, IsOwnTerm, HasUnknown, AllKnown, IsHeavy, IsLight}
 use Rattle.term_text.specs.Lists.{IsOnlyList, IsListRead}
-use Rattle.term_text.proofs.Texts.{cut_unique, heads, tails}
-use Rattle.term_text.proofs.Decimals.{decimal_same, decimal_digits}
+use Rattle.ascii_text.proofs.Cuts.{cut_unique}
+use Rattle.term_text.proofs.Texts.{heads, tails}
+use Rattle.ascii_text.proofs.Digits.{decimal_same, decimal_digits}
 use Rattle.term_text.proofs.Listing.{only_none}
 
 pub own_made : (wanted : ℕ) (term : List Symbol) → are_own_terms wanted term ≡ true → (make_terms wanted term ≡ true) × (list_all is_symbol term ≡ true)

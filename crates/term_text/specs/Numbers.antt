@@ -1,5 +1,5 @@
 -- Numbers at the front of a text. No public clause cites this module.
-use Rattle.std.specs.Prelude.{◌≡◌, ℕ, ◌<◌, ◌^◌, Bool, true, false, not, nat_eq, List, [], ◌∷◌, ◌++◌}
+use Rattle.std.specs.Prelude.{◌≡◌, ℕ, ◌<◌, ◌^◌, Bool, true, not, List, [], ◌∷◌, ◌++◌}
 use Rattle.std.specs.Fmt.{decimal}
 use Rattle.mg_word.specs.Facts.{is_digit}
 
@@ -17,14 +17,3 @@ pub record IsNumberAt (bytes : List ℕ) (number : ℕ) (rest : List ℕ) : Type
 pub record IsOnlyNumber (bytes : List ℕ) (number : ℕ) (rest : List ℕ) : Type 0 where
   pub is : IsNumberAt bytes number rest
   pub only : (n : ℕ) (r : List ℕ) → IsNumberAt bytes n r → (n ≡ number) × (r ≡ rest)
-
--- the number is spelled so
-pub record IsValue (digits : List ℕ) (number : ℕ) : Type 0 where
-  pub small : number < 2 ^ 32
-  pub text : decimal number ≡ digits
-
--- a digit stands behind a leading zero
-abbrev pub leads_with_zero : List ℕ → Bool
-leads_with_zero [] = false
-leads_with_zero (first ∷ []) = false
-leads_with_zero (first ∷ second ∷ digits) = nat_eq first 48

@@ -6,8 +6,9 @@ ghost use Rattle.term_text.specs.Lists as lists;
 ghost use Rattle.term_text.specs.Terms as terms;
 ghost use Rattle.term_text.specs.OwnTerms.{HasUnknown};
 
-use crate::slices::{skip, starts};
+use crate::fronts::starts;
 use crate::terms::{Buffers, MOST_SYMBOLS, look_up, take_term};
+use ascii_text::skip;
 use mg_word::{Items, NoMemory, Symbols, Word};
 use std::alloc::Global;
 

@@ -7,9 +7,7 @@ ghost use Rattle.mg_word.specs.Spelling as spelling;
 ghost use Rattle.term_text.specs.Names.{IsNameAt, IsOnlyName, IsQuotedAt, IsOnlyQuoted};
 ghost use Rattle.term_text.specs.Names as names;
 
-use crate::slices::{
-    digits_length, front, is_digit, is_lower_letter, is_word_byte, skip, word_length,
-};
+use ascii_text::{digits_len, front, is_plain_number, is_printable, is_word_byte, skip, word_len};
 use mg_word::{Kind, NoMemory};
 
 // Whether no name goes on here.
@@ -28,14 +26,8 @@ fn is_lower_word(name: &[u8]) -> bool
 {
     match name {
         [] => false,
-        [first, ..] => is_lower_letter(*first) && word_length(name) == name.len(),
+        [first, ..] => first.is_ascii_lowercase() && word_len(name) == name.len(),
     }
-}
-
-fn is_name_byte(byte: u8) -> bool
-    ensures { result ≡ facts.is_name_byte byte }
-{
-    b' ' <= byte && byte <= b'~'
 }
 
 // The byte that the text within quotes begins with, and how many bytes it is written as.
@@ -50,7 +42,7 @@ fn next_byte(bytes: &[u8], quote: u8) -> Option<(u8, usize)>
         return None;
     }
     if *first != b'\\' {
-        if is_name_byte(*first) {
+        if is_printable(*first) {
             return Some((*first, 1));
         }
         return None;
@@ -95,22 +87,10 @@ fn take_word<'a>(bytes: &'a [u8], name: &mut Vec<u8>) -> Result<&'a [u8], NoMemo
     requires { spelling.begins_lower bytes.now ≡ true }
     ensures { IfOk result (λ rest. IsOnlyName bytes.now Kind.Word name.new.items rest.now) }
 {
-    let count = word_length(bytes);
+    let count = word_len(bytes);
     name.clear();
     name.extend_from_slice(front(bytes, count))?;
     Ok(skip(bytes, count))
-}
-
-// Whether digits have no leading zero, unless they are 0.
-fn is_plain_number(digits: &[u8]) -> bool
-    requires { list_all facts.is_digit digits.now ≡ true }
-    ensures { result ≡ facts.is_plain_number digits.now }
-{
-    match digits {
-        [] => false,
-        [_] => true,
-        [first, ..] => b'1' <= *first,
-    }
 }
 
 // Whether a name that stands between such quotes is to be written without them.
@@ -127,7 +107,7 @@ fn take_integer<'a>(bytes: &'a [u8], name: &mut Vec<u8>) -> Result<Option<&'a [u
         (names.NoName bytes.now)
         (λ rest. IsOnlyName bytes.now Kind.Integer name.new.items rest.now)) }
 {
-    let count = digits_length(bytes);
+    let count = digits_len(bytes);
     let digits = front(bytes, count);
     let rest = skip(bytes, count);
     if !is_plain_number(digits) {
@@ -177,10 +157,10 @@ pub fn take_name<'a>(
     let [first, ..] = bytes else {
         return Ok(None);
     };
-    if is_lower_letter(*first) {
+    if first.is_ascii_lowercase() {
         return Ok(Some((Kind::Word, take_word(bytes, name)?)));
     }
-    if is_digit(*first) {
+    if first.is_ascii_digit() {
         return Ok(of_kind(Kind::Integer, take_integer(bytes, name)?));
     }
     if *first == b'\'' {

@@ -7,7 +7,7 @@ ghost use Rattle.term_text.specs.OwnTerms.{AreNumbers, IsSymbolOf, HasUnknown, A
 ghost use Rattle.term_text.specs.Words.{most_symbols};
 
 use crate::names::take_name;
-use crate::slices::skip;
+use ascii_text::skip;
 use mg_word::{Kind, NoMemory, Symbols};
 use std::alloc::Global;
 
