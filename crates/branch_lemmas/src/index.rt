@@ -15,6 +15,9 @@ use std::marker::Model;
 /// How many lemmas are kept at most.
 pub const MOST_LEMMAS: u32 = 10_000;
 
+/// How many literals a kept lemma has at most, inside and outside together.
+pub const MOST_LITERALS: usize = 8;
+
 /// Kept lemmas: contracts see their list.
 #[derive(Debug, Drop)]
 pub struct LemmaIndex {

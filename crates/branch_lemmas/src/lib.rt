@@ -7,7 +7,7 @@ mod index;
 mod lemma;
 
 pub use folding::{closure_lemma, fold, leaf_lemma};
-pub use index::{LemmaIndex, MOST_LEMMAS};
+pub use index::{LemmaIndex, MOST_LEMMAS, MOST_LITERALS};
 pub use lemma::Lemma;
 
 #[cfg(test)]
