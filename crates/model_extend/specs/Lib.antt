@@ -1,0 +1,4 @@
+pub mod Branches
+pub mod Laws
+pub mod Signs
+pub mod Steps
