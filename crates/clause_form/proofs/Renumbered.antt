@@ -11,7 +11,7 @@ use Rattle.mg_word.specs.declared.clause.ClauseLit.TheVariants.{True, False, Lit
 use Rattle.mg_word.specs.declared.clause.Clause.{Clause}
 use Rattle.mg_word.specs.declared.form.Form.{Form}
 use Rattle.clause_form.specs.Free.{is_free, IsLeastFree}
-use Rattle.mg_word.specs.Facts.{most_forms}
+use Rattle.mg_word.specs.Facts.{most_forms, most_items}
 use Rattle.clause_form.specs.Faults.{is_light, is_light_clause, is_faultless, IsFirstHeavy, IsReached, Stands}
 use Rattle.clause_form.specs.Renumbering.{item_renumbered, pattern_renumbered, lit_renumbered, literal_renumbered, clause_renumbered, renumbered}
 use Rattle.clause_form.specs.declared.fault.FormFault.{FormFault}
@@ -141,7 +141,7 @@ all_mapped p f same (x ∷ xs) = ap (λ b. b && list_all p (map f xs)) (same x) 
 light_mapped : (n : List ℕ) (literal : ClauseLit) → is_light (literal_renumbered n literal) ≡ is_light literal
 light_mapped n True = refl
 light_mapped n False = refl
-light_mapped n (Literal lit) = ap (λ m. nat_le m 4096) (length-map lit.pattern (item_renumbered n))
+light_mapped n (Literal lit) = ap (λ m. nat_le m most_items) (length-map lit.pattern (item_renumbered n))
 
 light_clause_mapped : (n : List ℕ) (clause : Clause) → is_light_clause (clause_renumbered n clause) ≡ is_light_clause clause
 light_clause_mapped n clause = all_mapped is_light (literal_renumbered n) (light_mapped n) clause.literals

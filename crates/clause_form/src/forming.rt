@@ -10,12 +10,8 @@ ghost use Rattle.clause_form.specs.Building.{IsRefused, RefusesForm, RefusesClau
 use crate::FormFault;
 use crate::sides::{further_form_of, plain_form_of};
 use crate::variables::free_variable;
-use mg_word::{Clause, ClauseLit, Form, Items};
+use mg_word::{Clause, ClauseLit, Form, Items, MOST_FORMS, MOST_ITEMS};
 use std::alloc::Global;
-
-const MOST_ITEMS: usize = 4096;
-
-const MOST_FORMS: usize = 100_000;
 
 // Whether the literal has at most 4,096 symbols and variables.
 fn is_light_literal(literal: &ClauseLit) -> bool

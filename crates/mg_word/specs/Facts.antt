@@ -9,6 +9,7 @@ use Rattle.mg_word.specs.Table.{Symbol}
 use Rattle.mg_word.specs.SymbolOrder.{symbol_cmp}
 use Rattle.mg_word.specs.Words.{pattern_fits, numbered}
 use Rattle.mg_word.specs.Forms.{conclusions_of, forms_of, is_among, is_restricted, pattern_variables}
+use Rattle.mg_word.specs.declared.limits.TheConstants.{MOST_ITEMS, MOST_CONCLUSIONS, MOST_FORMS}
 use Rattle.mg_word.specs.declared.symbol.Kind.{Kind}
 use Rattle.mg_word.specs.declared.symbol.Kind.TheVariants.{Word, Integer, Distinct}
 use Rattle.mg_word.specs.declared.item.Item.{Item}
@@ -86,7 +87,7 @@ most_parts = 33554432
 
 -- the most conclusions that a form may have
 abbrev pub most_conclusions : ℕ
-most_conclusions = 64
+most_conclusions = MOST_CONCLUSIONS
 
 -- what holds of each clause over so many files
 pub record IsClause (table : List Symbol) (files : ℕ) (clause : Clause) : Type 0 where
@@ -115,10 +116,10 @@ pub record IsInput (table : List Symbol) (files : List (List ℕ)) (clauses : Li
 
 -- the most symbols and variables of a literal, counted together, and the most forms
 abbrev pub most_items : ℕ
-most_items = 4096
+most_items = MOST_ITEMS
 
 abbrev pub most_forms : ℕ
-most_forms = 100000
+most_forms = MOST_FORMS
 
 -- the literal has few enough symbols and variables
 abbrev pub is_light_lit : PatLit → Bool

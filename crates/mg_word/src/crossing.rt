@@ -1,6 +1,6 @@
 //! The values that threads share may be sent and read across threads.
 
-use crate::{Input, LitSet, NoMemory, Problem};
+use crate::{Input, Inst, LitSet, NoMemory, Problem};
 
 // What may be sent to another thread and read from several.
 fn crosses<T: Send + Sync>(_: &T) {}
@@ -15,6 +15,10 @@ fn input_crosses(input: &Input) {
 
 fn lit_set_crosses(set: &LitSet) {
     crosses(set);
+}
+
+fn inst_crosses(inst: &Inst) {
+    crosses(inst);
 }
 
 fn no_memory_crosses(failure: &NoMemory) {
