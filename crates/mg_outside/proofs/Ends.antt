@@ -1,7 +1,7 @@
 -- Reads one after another: what their counts say together.
 use Rattle.std.proofs.Common.{◌≡◌, ◌≢◌, ℕ, ◌≤◌, ◌∙◌, refl, ap, subst, arith}
 use Rattle.mg_outside.specs.Causes.{Rose, one_more}
-use Rattle.mg_outside.specs.Counting.{Counts, OnlyAbsences, ReadsEnd, SomeFailed, NoneFell, counted}
+use Rattle.mg_outside.specs.Counting.{Counts, OnlyAbsences, ReadsEnd, CallEnds, SomeFailed, counted}
 use Rattle.mg_outside.specs.declared.files.ReadAnswer.{ReadAnswer}
 use Rattle.mg_outside.specs.declared.files.ReadAnswer.TheVariants.{Done, Absent, TooLong, Failed, NoMemory}
 
@@ -67,10 +67,22 @@ too_long_last before now reads = subst (λ count. Rose count now.overruns) reads
 pub failed_last : (before now : Counts) → ReadsEnd Failed before now → SomeFailed before now
 failed_last before now reads = subst (λ count. Rose count now.faults) reads.earlier.faults (failed_counted reads.between now reads.last)
 
--- a read lets no count fall
-pub none_fell : (answer : ReadAnswer) (before now : Counts) → now ≡ counted answer before → NoneFell before now
-none_fell Done before now last = rw last (record { faults = omega arith; absences = omega arith; overruns = omega arith })
-none_fell Absent before now last = rw last (record { faults = omega arith; absences = omega arith; overruns = omega arith })
-none_fell TooLong before now last = rw last (record { faults = omega arith; absences = omega arith; overruns = omega arith })
-none_fell Failed before now last = rw last (record { faults = omega arith; absences = omega arith; overruns = omega arith })
-none_fell NoMemory before now last = rw last (record { faults = omega arith; absences = omega arith; overruns = omega arith })
+-- reads that found their files, or no file
+pub quiet_ends : (before now : Counts) → OnlyAbsences before now → ReadsEnd Done before now
+quiet_ends before now quiet = record { between = now; earlier = quiet; last = refl }
+
+-- the reads of a call are those of its answer
+pub call_ends : (answer : ReadAnswer) (before now : Counts) → ReadsEnd answer before now → CallEnds answer before now
+call_ends Done before now ends = ends
+call_ends Absent before now ends = ends
+call_ends TooLong before now ends = ends
+call_ends Failed before now ends = ends
+call_ends NoMemory before now ends = (NoMemory, ends)
+
+-- reads, and then a call
+pub call_after : (answer : ReadAnswer) (before between now : Counts) → OnlyAbsences before between → CallEnds answer between now → CallEnds answer before now
+call_after Done before between now first call = ends_after Done before between now first call
+call_after Absent before between now first call = ends_after Absent before between now first call
+call_after TooLong before between now first call = ends_after TooLong before between now first call
+call_after Failed before between now first call = ends_after Failed before between now first call
+call_after NoMemory before between now first (last, ends) = (last, ends_after last before between now first ends)

@@ -34,12 +34,11 @@ pub record ReadsEnd (answer : ReadAnswer) (before now : Counts) : Type 0 where
   pub earlier : OnlyAbsences before between
   pub last : now ≡ counted answer between
 
+-- the reads of a call that answers so; one that runs out of memory may do so behind any of its reads
+abbrev pub CallEnds : ReadAnswer → Counts → Counts → Type 0
+CallEnds NoMemory before now = (last : ReadAnswer) × ReadsEnd last before now
+CallEnds answer before now = ReadsEnd answer before now
+
 -- a read failed, as far as the counts tell
 abbrev pub SomeFailed : Counts → Counts → Type 0
 SomeFailed before now = Rose before.faults now.faults
-
--- no count fell
-pub record NoneFell (before now : Counts) : Type 0 where
-  pub faults : before.faults ≤ now.faults
-  pub absences : before.absences ≤ now.absences
-  pub overruns : before.overruns ≤ now.overruns
