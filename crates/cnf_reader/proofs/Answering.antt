@@ -1,5 +1,5 @@
 -- What was met when the reading ends: an input, or a fault with its cause.
-use Rattle.std.proofs.Common.{◌≡◌, ℕ, ◌+◌, ◌≤◌, Bool, true, false, true≢false, List, [], ◌∷◌, Option, Some, None, Result, Ok, Err, refl, sym, ap, ◌∙◌, arith, subst, length}
+use Rattle.std.proofs.Common.{◌≡◌, ℕ, ◌+◌, Bool, true, false, true≢false, List, [], ◌∷◌, Option, Some, None, Result, Ok, Err, refl, sym, ap, ◌∙◌, arith, subst, length}
 use Rattle.mg_outside.specs.Reading.{Table}
 use Rattle.mg_word.specs.declared.clause.Name.{Name}
 use Rattle.cnf_reader.specs.declared.fault.ReadFault.{ReadFault}
@@ -11,26 +11,12 @@ use Rattle.cnf_reader.specs.declared.pending.Asked.{Asked}
 use Rattle.cnf_reader.specs.declared.part.Part.TheVariants.{Include, Fault}
 use Rattle.cnf_grammar.specs.Table.{start}
 use Rattle.cnf_reader.specs.Statements.{fresh}
-use Rattle.cnf_reader.specs.Reading.{World, AreTold, NeverFails, reading_of, read_opened, source_of, include_in, and_then, most_levels, with_file, nothing_kept, Counts, HasRisen, StandsBy, StandsFirst, IsFault, read_tokens}
+use Rattle.cnf_reader.specs.Reading.{World, AreTold, NeverFails, reading_of, read_opened, source_of, include_in, and_then, most_levels, with_file, nothing_kept, StandsBy, StandsFirst, IsFault, read_tokens}
 use Rattle.cnf_reader.specs.Parts.{Stays, is_of_text}
 use Rattle.cnf_reader.specs.Frames.{FileData, Advances, Reached, SameBelow, ReadsKept}
 use Rattle.cnf_reader.specs.Entering.{IsWhole, IsNotEntered, IsBegun, IsNotBegun, FaultIs}
 use Rattle.cnf_reader.proofs.Entered.{all_left}
-use Rattle.cnf_reader.proofs.Tries.{rose_later}
 use Rattle.cnf_reader.proofs.Reaching.{fault_met, include_refused, with_reads, with_told, with_whole, at_reads, same_itself}
-
--- counts only rise
-pub record Later (start before : Counts) : Type 0 where
-  pub faults : start.faults ≤ before.faults
-  pub absences : start.absences ≤ before.absences
-  pub overruns : start.overruns ≤ before.overruns
-
-risen_later : (kind : ReadKind) (start before now : Counts) → Later start before → HasRisen kind before now → HasRisen kind start now
-risen_later Files start before now later risen = rose_later start.faults before.faults now.faults later.faults risen
-risen_later ProblemAbsent start before now later risen = rose_later start.absences before.absences now.absences later.absences risen
-risen_later IncludeAbsent start before now later risen = rose_later start.absences before.absences now.absences later.absences risen
-risen_later TooLong start before now later risen = rose_later start.overruns before.overruns now.overruns later.overruns risen
-risen_later kind start before now later risen = tt
 
 -- a fault that a world gives, and whether a read failed in it
 stands : (told : Option Table) (name : List ℕ) (root : Option (List ℕ)) (kind : ReadKind) (fault : ReadFault) (world : World) (first second : Bool) → AreTold told world → (first ≡ false → second ≡ false → NeverFails world) → IsWhole kind first second
@@ -38,31 +24,29 @@ stands : (told : Option Table) (name : List ℕ) (root : Option (List ℕ)) (kin
 stands told name root Files fault world first second files unless whole reading = record { world = world; files = files; reading = reading }
 stands told name root kind fault world first second files unless whole reading = record { world = world; files = files; whole = unless whole.0 whole.1; reading = reading }
 
-text_fault : (told : Option Table) (name : List ℕ) (root : Option (List ℕ)) (before now : Counts) (kind : ReadKind) (fault : ReadFault) → is_of_text kind ≡ true → StandsFirst told name root fault → StandsBy kind told name root fault × HasRisen kind before now
-text_fault told name root before now Files fault text first = absurd (true≢false (sym text))
-text_fault told name root before now ProblemAbsent fault text first = absurd (true≢false (sym text))
-text_fault told name root before now IncludeAbsent fault text first = absurd (true≢false (sym text))
-text_fault told name root before now TooLong fault text first = absurd (true≢false (sym text))
-text_fault told name root before now kind fault text first = (first, tt)
+text_fault : (told : Option Table) (name : List ℕ) (root : Option (List ℕ)) (kind : ReadKind) (fault : ReadFault) → is_of_text kind ≡ true → StandsFirst told name root fault → StandsBy kind told name root fault
+text_fault told name root Files fault text first = absurd (true≢false (sym text))
+text_fault told name root ProblemAbsent fault text first = absurd (true≢false (sym text))
+text_fault told name root IncludeAbsent fault text first = absurd (true≢false (sym text))
+text_fault told name root TooLong fault text first = absurd (true≢false (sym text))
+text_fault told name root kind fault text first = first
 
 module _ (told : Option Table) (root : Option (List ℕ)) (name : List ℕ) (selections : List (Option (List Name))) (kept after : Kept) (file next : FileData) (outer : List FileData) (reached : Reached told root name selections kept (file ∷ outer)) where
   -- a fault at a token of a file
-  pub text_met : (start now : Counts) (kind : ReadKind) (line column : ℕ) (fault : ReadFault) → Advances selections kept file (Fault kind line column) after next → FaultIs kind next.name line column [] fault → IsFault told name root start now fault
-  text_met start now kind line column NoMemory goes is = tt
-  text_met start now kind line column (At wanted where_is at_line at_column subject) goes is =
-      subst (λ f. IsFault told name root start now f) (sym is)
-      (text_fault told name root start now kind _ goes.1
+  pub text_met : (kind : ReadKind) (line column : ℕ) (fault : ReadFault) → Advances selections kept file (Fault kind line column) after next → FaultIs kind next.name line column [] fault → IsFault told name root fault
+  text_met kind line column NoMemory goes is = tt
+  text_met kind line column (At wanted where_is at_line at_column subject) goes is =
+      subst (λ f. IsFault told name root f) (sym is)
+      (text_fault told name root kind _ goes.1
       (record { world = reached.world; files = reached.files; whole = reached.whole; reading = fault_met told root name selections kept after file next outer reached kind line column goes }))
 
   -- a fault at an include
-  pub include_met : (start before now : Counts) (asked : Asked) (fault : ReadFault) → Later start before → Advances selections kept file (Include asked) after next → Stays kept after → IsNotEntered told root after next (length outer) asked before now fault
-      → IsFault told name root start now fault
-  include_met start before now asked NoMemory later goes stays refused = tt
-  include_met start before now asked (At kind where_is line column subject) later goes stays refused =
-      let met = include_refused told root name selections kept after file next outer reached asked goes stays (At kind where_is line column subject) refused.refuses in (
-        stands told name root kind (At kind where_is line column subject) met.0 refused.refuses.first.fails refused.refuses.second.fails met.1 met.2 refused.whole met.3,
-        risen_later kind start before now later refused.risen,
-      )
+  pub include_met : (asked : Asked) (fault : ReadFault) → Advances selections kept file (Include asked) after next → Stays kept after → IsNotEntered told root after next (length outer) asked fault
+      → IsFault told name root fault
+  include_met asked NoMemory goes stays refused = tt
+  include_met asked (At kind where_is line column subject) goes stays refused =
+      let met = include_refused told root name selections kept after file next outer reached asked goes stays (At kind where_is line column subject) refused.refuses in
+      stands told name root kind (At kind where_is line column subject) met.0 refused.refuses.first.fails refused.refuses.second.fails met.1 met.2 refused.whole met.3
 
 -- the last file was read to its end
 pub all_read : (told : Option Table) (root : Option (List ℕ)) (name : List ℕ) (selections : List (Option (List Name))) (kept : Kept) → Reached told root name selections kept [] → ReadsKept told name root kept
@@ -100,13 +84,11 @@ begun_reaches told root name now file begun =
     whole_result (Err fault) = refl
 
 -- where it was not, that fault stands there
-pub not_begun : (told : Option Table) (root : Option (List ℕ)) (name : List ℕ) (before now : Counts) (fault : ReadFault) → IsNotBegun told name before now fault → IsFault told name root before now fault
+pub not_begun : (told : Option Table) (root : Option (List ℕ)) (name : List ℕ) (fault : ReadFault) → IsNotBegun told name fault → IsFault told name root fault
 unfolding reading_of
-not_begun told root name before now NoMemory refused = tt
-not_begun told root name before now (At kind where_is line column subject) refused =
+not_begun told root name NoMemory refused = tt
+not_begun told root name (At kind where_is line column subject) refused =
     let first = calm told in
-    let world = with_reads first.0 0 refused.first refused.second in (
-      stands told name root kind (At kind where_is line column subject) world refused.first.fails refused.second.fails (with_told told first.0 0 refused.first refused.second first.1) (with_whole told first.0 0 refused.first refused.second first.2) refused.whole
-          (refused.gives world (at_reads told first.0 world 0 refused.first refused.second (same_itself (0 + 2) world)) root),
-      refused.risen,
-    )
+    let world = with_reads first.0 0 refused.first refused.second in
+    stands told name root kind (At kind where_is line column subject) world refused.first.fails refused.second.fails (with_told told first.0 0 refused.first refused.second first.1) (with_whole told first.0 0 refused.first refused.second first.2) refused.whole
+    (refused.gives world (at_reads told first.0 world 0 refused.first refused.second (same_itself (0 + 2) world)) root)

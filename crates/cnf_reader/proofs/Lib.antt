@@ -39,3 +39,4 @@ pub mod Standing
 pub mod Saying
 pub mod Stopping
 pub mod Outcomes
+mod Counted

@@ -3,11 +3,10 @@ use Rattle.std.proofs.Common.{◌≡◌, ℕ, zero, suc, ◌<◌, ◌≤◌, tru
 use Rattle.std.proofs.lemmas.Bool.Decides.{nat_tests}
 use Rattle.std.specs.Option.{IsSomeAnd}
 use Rattle.std.specs.declared.vec.Vec.{Vec}
-use Rattle.mg_outside.specs.Causes.{Rose}
 use Rattle.mg_outside.specs.Reading.{Table, TakesFile, IsAbsent, IsTooLong}
 use Rattle.cnf_reader.specs.declared.opening.Tried.TheVariants.{Opened as TriedOpened, Absent as TriedAbsent, TooLong as TriedTooLong, Failed as TriedFailed}
 use Rattle.cnf_reader.specs.declared.opening.Found.TheVariants.{Opened, Absent, TooLong, Failed}
-use Rattle.cnf_reader.specs.Reading.{opened, none_found, open_first, Counts}
+use Rattle.cnf_reader.specs.Reading.{opened, none_found, open_first}
 use Rattle.cnf_reader.specs.Openings.{Finding, IsTry, IsOpening}
 
 -- a finding of which nothing is needed
@@ -43,8 +42,8 @@ fits n limit within = grind (arith, nat_tests)
 passes : (n limit : ℕ) → limit < n → nat_le n limit ≡ false
 passes n limit more = grind (arith, nat_tests)
 
-module _ (told : Option Table) (name : List ℕ) (limit : ℕ) (before now : Counts) where
-  pub try_opened : (bytes : Vec ℕ Global) (old : List ℕ) → old ≡ [] → TakesFile told name limit old bytes.items → IsTry told name limit before now (TriedOpened bytes)
+module _ (told : Option Table) (name : List ℕ) (limit : ℕ) where
+  pub try_opened : (bytes : Vec ℕ Global) (old : List ℕ) → old ≡ [] → TakesFile told name limit old bytes.items → IsTry told name limit (TriedOpened bytes)
   try_opened bytes old none takes =
       let is : bytes.items ≡ takes.bytes = takes.appended ∙ ap (λ l. l ++ takes.bytes) none in
       let found = found_with told name (Some takes.bytes) takes.told in
@@ -52,106 +51,102 @@ module _ (told : Option Table) (name : List ℕ) (limit : ℕ) (before now : Cou
       record {
         finding = found.0;
         gives = λ next. rw (found.1, found.2, short) (ap (λ l. opened name l) (sym is));
-        counts = found.2;
+        whole = found.2;
         fits = subst (λ l. length l ≤ limit) (sym is) takes.within;
       }
 
-  pub try_absent : IsAbsent told name → Rose before.absences now.absences → IsTry told name limit before now TriedAbsent
-  try_absent absent cause =
+  pub try_absent : IsAbsent told name → IsTry told name limit TriedAbsent
+  try_absent absent =
       let found = found_with told name None absent in
-      record { finding = found.0; gives = λ next. rw (found.1, found.2) refl; counts = (found.2, cause); fits = tt }
+      record { finding = found.0; gives = λ next. rw (found.1, found.2) refl; whole = found.2; fits = tt }
 
-  pub try_too_long : IsTooLong told name limit → Rose before.overruns now.overruns → IsTry told name limit before now TriedTooLong
-  try_too_long long cause =
+  pub try_too_long : IsTooLong told name limit → IsTry told name limit TriedTooLong
+  try_too_long long =
       let found = long_with told name limit long.told in
       let past : nat_le (length found.1.0) limit ≡ false = passes (length found.1.0) limit found.1.2 in
-      record { finding = found.0; gives = λ next. rw (found.1.1, found.2, past) refl; counts = (found.2, cause); fits = tt }
+      record { finding = found.0; gives = λ next. rw (found.1.1, found.2, past) refl; whole = found.2; fits = tt }
 
-  pub try_failed : Rose before.faults now.faults → IsTry told name limit before now TriedFailed
-  try_failed cause = let found = failing told in record { finding = found.0; gives = λ next. rw found.1 refl; counts = (found.1, cause); fits = tt }
+  pub try_failed : IsTry told name limit TriedFailed
+  try_failed = let found = failing told in record { finding = found.0; gives = λ next. rw found.1 refl; whole = found.1; fits = tt }
 
-module _ (told : Option Table) (name : List ℕ) (more : List (List ℕ)) (limit : ℕ) (before now : Counts) where
-  pub open_opened : (text : String Global) (bytes : Vec ℕ Global) → name ≡ string_bytes text → IsTry told name limit before now (TriedOpened bytes) → IsOpening told (name ∷ more) limit before now (Opened text bytes)
+module _ (told : Option Table) (name : List ℕ) (more : List (List ℕ)) (limit : ℕ) where
+  pub open_opened : (text : String Global) (bytes : Vec ℕ Global) → name ≡ string_bytes text → IsTry told name limit (TriedOpened bytes) → IsOpening told (name ∷ more) limit (Opened text bytes)
   open_opened text bytes named tried =
       let spare = nothing_found told in
       record {
         first = tried.finding;
         second = spare.0;
         gives = λ number world finds. rw (finds.0, finds.1) (tried.gives (open_first world (suc number) limit more)) ∙ ap (λ n. opened n bytes.items) named;
-        counts = (tried.counts, spare.1);
+        whole = (tried.whole, spare.1);
         fits = tried.fits;
       }
 
-  pub open_too_long : IsTry told name limit before now TriedTooLong → IsOpening told (name ∷ more) limit before now TooLong
+  pub open_too_long : IsTry told name limit TriedTooLong → IsOpening told (name ∷ more) limit TooLong
   open_too_long tried =
       let spare = nothing_found told in
       record {
         first = tried.finding;
         second = spare.0;
         gives = λ number world finds. rw (finds.0, finds.1) (tried.gives (open_first world (suc number) limit more));
-        counts = (tried.counts.0, spare.1, tried.counts.1);
+        whole = (tried.whole, spare.1);
         fits = tt;
       }
 
-  pub open_failed : IsTry told name limit before now TriedFailed → IsOpening told (name ∷ more) limit before now Failed
+  pub open_failed : IsTry told name limit TriedFailed → IsOpening told (name ∷ more) limit Failed
   open_failed tried =
       let spare = nothing_found told in
       record {
         first = tried.finding;
         second = spare.0;
         gives = λ number world finds. rw (finds.0, finds.1) (tried.gives (open_first world (suc number) limit more));
-        counts = tried.counts.1;
+        whole = tt;
         fits = tt;
       }
 
-  pub open_absent : more ≡ [] → IsTry told name limit before now TriedAbsent → IsOpening told (name ∷ more) limit before now Absent
+  pub open_absent : more ≡ [] → IsTry told name limit TriedAbsent → IsOpening told (name ∷ more) limit Absent
   open_absent none tried =
       let spare = nothing_found told in
       record {
         first = tried.finding;
         second = spare.0;
         gives = λ number world finds. rw (finds.0, finds.1) (tried.gives (open_first world (suc number) limit more) ∙ ap (λ l. open_first world (suc number) limit l) none);
-        counts = (tried.counts.0, spare.1, tried.counts.1);
+        whole = (tried.whole, spare.1);
         fits = tt;
       }
 
--- a count that rose later rose
-pub rose_later : (start before now : ℕ) → start ≤ before → Rose before now → Rose start now
-rose_later start before now later rose = omega arith
-
-module _ (told : Option Table) (name second : List ℕ) (limit : ℕ) (before middle now : Counts) (first_try : IsTry told name limit before middle TriedAbsent) where
-  pub second_opened : (text : String Global) (bytes : Vec ℕ Global) → second ≡ string_bytes text → IsTry told second limit middle now (TriedOpened bytes) → IsOpening told (name ∷ second ∷ []) limit before now (Opened text bytes)
+module _ (told : Option Table) (name second : List ℕ) (limit : ℕ) (first_try : IsTry told name limit TriedAbsent) where
+  pub second_opened : (text : String Global) (bytes : Vec ℕ Global) → second ≡ string_bytes text → IsTry told second limit (TriedOpened bytes) → IsOpening told (name ∷ second ∷ []) limit (Opened text bytes)
   second_opened text bytes named tried = record {
     first = first_try.finding;
     second = tried.finding;
     gives = λ number world finds. rw (finds.0, finds.1, finds.2, finds.3) (first_try.gives _ ∙ tried.gives none_found) ∙ ap (λ n. opened n bytes.items) named;
-    counts = (first_try.counts.0, tried.counts);
+    whole = (first_try.whole, tried.whole);
     fits = tried.fits;
   }
 
-  pub second_absent : before.absences ≤ middle.absences → IsTry told second limit middle now TriedAbsent → IsOpening told (name ∷ second ∷ []) limit before now Absent
-  second_absent later tried = record {
+  pub second_absent : IsTry told second limit TriedAbsent → IsOpening told (name ∷ second ∷ []) limit Absent
+  second_absent tried = record {
     first = first_try.finding;
     second = tried.finding;
     gives = λ number world finds. rw (finds.0, finds.1, finds.2, finds.3) (first_try.gives _ ∙ tried.gives none_found);
-    counts = (first_try.counts.0, tried.counts.0, rose_later before.absences middle.absences now.absences later tried.counts.1);
+    whole = (first_try.whole, tried.whole);
     fits = tt;
   }
 
-  pub second_too_long : before.overruns ≤ middle.overruns → IsTry told second limit middle now TriedTooLong → IsOpening told (name ∷ second ∷ []) limit before now TooLong
-  second_too_long later tried = record {
+  pub second_too_long : IsTry told second limit TriedTooLong → IsOpening told (name ∷ second ∷ []) limit TooLong
+  second_too_long tried = record {
     first = first_try.finding;
     second = tried.finding;
     gives = λ number world finds. rw (finds.0, finds.1, finds.2, finds.3) (first_try.gives _ ∙ tried.gives none_found);
-    counts = (first_try.counts.0, tried.counts.0, rose_later before.overruns middle.overruns now.overruns later tried.counts.1);
+    whole = (first_try.whole, tried.whole);
     fits = tt;
   }
 
-  pub second_failed : before.faults ≤ middle.faults → IsTry told second limit middle now TriedFailed → IsOpening told (name ∷ second ∷ []) limit before now Failed
-  second_failed later tried = record {
+  pub second_failed : IsTry told second limit TriedFailed → IsOpening told (name ∷ second ∷ []) limit Failed
+  second_failed tried = record {
     first = first_try.finding;
     second = tried.finding;
     gives = λ number world finds. rw (finds.0, finds.1, finds.2, finds.3) (first_try.gives _ ∙ tried.gives none_found);
-    counts = rose_later before.faults middle.faults now.faults later tried.counts.1;
+    whole = tt;
     fits = tt;
   }

@@ -8,7 +8,7 @@ use Rattle.cnf_reader.specs.declared.fault.ReadKind.{ReadKind}
 use Rattle.cnf_reader.specs.declared.fault.ReadKind.TheVariants.{Files}
 use Rattle.cnf_reader.specs.declared.kept.Kept.{Kept}
 use Rattle.cnf_reader.specs.declared.pending.Asked.{Asked}
-use Rattle.cnf_reader.specs.Reading.{World, with_file, Counts, HasRisen, most_bytes, most_includes, opened, open_first, read_opened}
+use Rattle.cnf_reader.specs.Reading.{World, with_file, most_bytes, most_includes, opened, open_first, read_opened}
 use Rattle.cnf_reader.specs.Openings.{Finding, FindsTwo}
 use Rattle.cnf_reader.specs.Frames.{FileData, Refuses}
 
@@ -41,15 +41,14 @@ IsWhole Files first second = Unit {0}
 IsWhole kind first second = (first ≡ false) × (second ≡ false)
 
 -- a fault stands at an include, with its cause
-pub record RefusesBy (told : Option Table) (root : Option (List ℕ)) (kept : Kept) (file : FileData) (depth : ℕ) (asked : Asked) (before now : Counts) (kind : ReadKind) (fault : ReadFault) : Type 0 where
+pub record RefusesBy (told : Option Table) (root : Option (List ℕ)) (kept : Kept) (file : FileData) (depth : ℕ) (asked : Asked) (kind : ReadKind) (fault : ReadFault) : Type 0 where
   pub refuses : Refuses told root kept file depth asked fault
-  pub risen : HasRisen kind before now
   pub whole : IsWhole kind refuses.first.fails refuses.second.fails
 
 -- the same, or want of memory
-abbrev pub IsNotEntered : Option Table → Option (List ℕ) → Kept → FileData → ℕ → Asked → Counts → Counts → ReadFault → Type 0
-IsNotEntered told root kept file depth asked before now (At kind name line column subject) = RefusesBy told root kept file depth asked before now kind (At kind name line column subject)
-IsNotEntered told root kept file depth asked before now NoMemory = Unit {0}
+abbrev pub IsNotEntered : Option Table → Option (List ℕ) → Kept → FileData → ℕ → Asked → ReadFault → Type 0
+IsNotEntered told root kept file depth asked (At kind name line column subject) = RefusesBy told root kept file depth asked kind (At kind name line column subject)
+IsNotEntered told root kept file depth asked NoMemory = Unit {0}
 
 -- the problem file was opened
 pub record IsBegun (told : Option Table) (name : List ℕ) (kept now : Kept) (file : FileData) : Type 0 where
@@ -64,14 +63,13 @@ pub record IsBegun (told : Option Table) (name : List ℕ) (kept now : Kept) (fi
   pub file_is : file ≡ new_file found (length kept.files) bytes
 
 -- a fault stands at the problem file, with its cause
-pub record BeginsNotBy (told : Option Table) (name : List ℕ) (before now : Counts) (kind : ReadKind) (fault : ReadFault) : Type 0 where
+pub record BeginsNotBy (told : Option Table) (name : List ℕ) (kind : ReadKind) (fault : ReadFault) : Type 0 where
   pub first : Finding told
   pub second : Finding told
   pub gives : (world : World) → FindsTwo world 0 first second → (root : Option (List ℕ)) → read_opened world root name (open_first world 0 most_bytes (name ∷ [])) ≡ Err fault
-  pub risen : HasRisen kind before now
   pub whole : IsWhole kind first.fails second.fails
 
 -- the same, or want of memory
-abbrev pub IsNotBegun : Option Table → List ℕ → Counts → Counts → ReadFault → Type 0
-IsNotBegun told name before now (At kind file line column subject) = BeginsNotBy told name before now kind (At kind file line column subject)
-IsNotBegun told name before now NoMemory = Unit {0}
+abbrev pub IsNotBegun : Option Table → List ℕ → ReadFault → Type 0
+IsNotBegun told name (At kind file line column subject) = BeginsNotBy told name kind (At kind file line column subject)
+IsNotBegun told name NoMemory = Unit {0}

@@ -1,14 +1,16 @@
 -- What tries to read files find. No public clause cites this module.
-use Rattle.std.specs.Prelude.{◌≡◌, ℕ, suc, ◌≤◌, Bool, true, false, List, ◌∷◌, map, length, Option, None, Some, string_bytes}
+use Rattle.std.specs.Prelude.{◌≡◌, ℕ, suc, ◌≤◌, Bool, true, false, List, ◌∷◌, map, length, Option, None, Some, Result, Ok, Err, string_bytes}
 use Rattle.std.specs.Option.{option_to_list}
-use Rattle.mg_outside.specs.Causes.{Rose}
+use Rattle.mg_word.specs.declared.memory.NoMemory.{NoMemory}
 use Rattle.mg_outside.specs.Reading.{Table}
+use Rattle.mg_outside.specs.declared.files.ReadAnswer.{ReadAnswer}
+use Rattle.mg_outside.specs.declared.files.ReadAnswer.TheVariants.{Done as ReadDone, Absent as ReadAbsent, TooLong as ReadTooLong, Failed as ReadFailed, NoMemory as ReadNoMemory}
 use Rattle.cnf_reader.specs.declared.names.Tries.{Tries}
 use Rattle.cnf_reader.specs.declared.opening.Tried.{Tried}
 use Rattle.cnf_reader.specs.declared.opening.Tried.TheVariants.{Opened as TriedOpened, Absent as TriedAbsent, TooLong as TriedTooLong, Failed as TriedFailed}
 use Rattle.cnf_reader.specs.declared.opening.Found.{Found}
 use Rattle.cnf_reader.specs.declared.opening.Found.TheVariants.{Opened, Absent, TooLong, Failed}
-use Rattle.cnf_reader.specs.Reading.{World, Opening, opened, none_found, too_long, read_failed, open_first, by_read, Counts}
+use Rattle.cnf_reader.specs.Reading.{World, Opening, opened, none_found, too_long, read_failed, open_first, by_read}
 
 -- the names to try, in order
 abbrev pub names_tried : Tries → List (List ℕ)
@@ -32,12 +34,12 @@ tried_seen name TriedAbsent next = next
 tried_seen name TriedTooLong next = too_long
 tried_seen name TriedFailed next = read_failed
 
--- the count that rises with what comes of a try, and whether the read failed
-abbrev pub TryCounts : Tried → Bool → Counts → Counts → Type 0
-TryCounts (TriedOpened bytes) fails before now = fails ≡ false
-TryCounts TriedAbsent fails before now = (fails ≡ false) × Rose before.absences now.absences
-TryCounts TriedTooLong fails before now = (fails ≡ false) × Rose before.overruns now.overruns
-TryCounts TriedFailed fails before now = (fails ≡ true) × Rose before.faults now.faults
+-- whether the read failed
+abbrev pub TryWhole : Tried → Bool → Type 0
+TryWhole (TriedOpened bytes) fails = fails ≡ false
+TryWhole TriedAbsent fails = fails ≡ false
+TryWhole TriedTooLong fails = fails ≡ false
+TryWhole TriedFailed fails = fails ≡ true
 
 -- whether a file that was opened has few enough bytes
 abbrev pub TryFits : Tried → ℕ → Type 0
@@ -47,10 +49,10 @@ TryFits TriedTooLong limit = Unit {0}
 TryFits TriedFailed limit = Unit {0}
 
 -- what comes of a try to read a file
-pub record IsTry (told : Option Table) (name : List ℕ) (limit : ℕ) (before now : Counts) (tried : Tried) : Type 0 where
+pub record IsTry (told : Option Table) (name : List ℕ) (limit : ℕ) (tried : Tried) : Type 0 where
   pub finding : Finding told
   pub gives : (next : Opening) → by_read finding.fails (finding.files name) limit name next ≡ tried_seen name tried next
-  pub counts : TryCounts tried finding.fails before now
+  pub whole : TryWhole tried finding.fails
   pub fits : TryFits tried limit
 
 -- what comes of tries
@@ -65,12 +67,12 @@ abbrev pub FindsTwo : {told : Option Table} → World → ℕ → Finding told �
 FindsTwo world number first second =
     (world.files number ≡ first.files) × (world.fails number ≡ first.fails) × (world.files (suc number) ≡ second.files) × (world.fails (suc number) ≡ second.fails)
 
--- which reads failed, and which count has risen
-abbrev pub FoundCounts : Found → Bool → Bool → Counts → Counts → Type 0
-FoundCounts (Opened name bytes) first second before now = (first ≡ false) × (second ≡ false)
-FoundCounts Absent first second before now = (first ≡ false) × (second ≡ false) × Rose before.absences now.absences
-FoundCounts TooLong first second before now = (first ≡ false) × (second ≡ false) × Rose before.overruns now.overruns
-FoundCounts Failed first second before now = Rose before.faults now.faults
+-- no read failed, but where that is what was found
+abbrev pub FoundWhole : Found → Bool → Bool → Type 0
+FoundWhole (Opened name bytes) first second = (first ≡ false) × (second ≡ false)
+FoundWhole Absent first second = (first ≡ false) × (second ≡ false)
+FoundWhole TooLong first second = (first ≡ false) × (second ≡ false)
+FoundWhole Failed first second = Unit {0}
 
 -- whether a file that was opened has few enough bytes
 abbrev pub FoundFits : Found → ℕ → Type 0
@@ -80,9 +82,25 @@ FoundFits TooLong limit = Unit {0}
 FoundFits Failed limit = Unit {0}
 
 -- what comes of tries of these names
-pub record IsOpening (told : Option Table) (names : List (List ℕ)) (limit : ℕ) (before now : Counts) (found : Found) : Type 0 where
+pub record IsOpening (told : Option Table) (names : List (List ℕ)) (limit : ℕ) (found : Found) : Type 0 where
   pub first : Finding told
   pub second : Finding told
   pub gives : (number : ℕ) (world : World) → FindsTwo world number first second → open_first world number limit names ≡ found_seen found
-  pub counts : FoundCounts found first.fails second.fails before now
+  pub whole : FoundWhole found first.fails second.fails
   pub fits : FoundFits found limit
+
+-- what the read of a try answered
+abbrev pub tried_read : Result Tried NoMemory → ReadAnswer
+tried_read (Ok (TriedOpened bytes)) = ReadDone
+tried_read (Ok TriedAbsent) = ReadAbsent
+tried_read (Ok TriedTooLong) = ReadTooLong
+tried_read (Ok TriedFailed) = ReadFailed
+tried_read (Err none) = ReadNoMemory
+
+-- what the last read of tries answered
+abbrev pub found_read : Result Found NoMemory → ReadAnswer
+found_read (Ok (Opened name bytes)) = ReadDone
+found_read (Ok Absent) = ReadAbsent
+found_read (Ok TooLong) = ReadTooLong
+found_read (Ok Failed) = ReadFailed
+found_read (Err none) = ReadNoMemory

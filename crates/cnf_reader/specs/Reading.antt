@@ -2,8 +2,8 @@
 use Rattle.std.specs.Prelude.{◌≡◌, ◌⊎◌, ℕ, zero, suc, ◌+◌, ◌-◌, ◌*◌, Bool, true, false, nat_le, List, [], ◌∷◌, ◌++◌, length, slice_range, Option, Some, None, Result, Ok, Err, if◌then◌else◌}
 use Rattle.mg_word.specs.Facts.{InputData}
 use Rattle.mg_word.specs.declared.clause.Name.{Name}
-use Rattle.mg_outside.specs.Causes.{Rose}
-pub use Rattle.mg_outside.specs.Counting.{Counts}
+use Rattle.mg_outside.specs.declared.files.ReadAnswer.{ReadAnswer}
+use Rattle.mg_outside.specs.declared.files.ReadAnswer.TheVariants.{Done as ReadDone, Absent as ReadAbsent, TooLong as ReadTooLong, Failed as ReadFailed, NoMemory as ReadNoMemory}
 use Rattle.mg_outside.specs.Reading.{Table}
 use Rattle.tptp_lexer.specs.Tokens.{tokens_of}
 use Rattle.tptp_lexer.specs.Spots.{spot_at}
@@ -192,23 +192,33 @@ pub record FailsFirst (told : Option Table) (name : List ℕ) (root : Option (Li
   pub files : AreTold told world
   pub reading : reading_of world root name ≡ Err fault
 
--- which count has risen with a fault of this kind
-abbrev pub HasRisen : ReadKind → Counts → Counts → Type 0
-HasRisen Files before now = Rose before.faults now.faults
-HasRisen ProblemAbsent before now = Rose before.absences now.absences
-HasRisen IncludeAbsent before now = Rose before.absences now.absences
-HasRisen TooLong before now = Rose before.overruns now.overruns
-HasRisen kind before now = Unit {0}
+-- what the last of the reads answered, where a fault of this kind was met
+abbrev pub kind_read : ReadKind → ReadAnswer
+kind_read Files = ReadFailed
+kind_read ProblemAbsent = ReadAbsent
+kind_read IncludeAbsent = ReadAbsent
+kind_read TooLong = ReadTooLong
+kind_read kind = ReadDone
+
+-- the same of a fault
+abbrev pub last_read : ReadFault → ReadAnswer
+last_read (At kind file line column subject) = kind_read kind
+last_read NoMemory = ReadNoMemory
+
+-- the same of what is read, or of a fault
+abbrev pub result_read : {A : Type 0} → Result A ReadFault → ReadAnswer
+result_read (Ok value) = ReadDone
+result_read (Err fault) = last_read fault
 
 -- where the fault stands in the files, or that a read failed there
 abbrev pub StandsBy : ReadKind → Option Table → List ℕ → Option (List ℕ) → ReadFault → Type 0
 StandsBy Files told name root fault = FailsFirst told name root fault
 StandsBy kind told name root fault = StandsFirst told name root fault
 
--- a fault stands first in the files, and comes with the count that tells its cause
-abbrev pub IsFault : Option Table → List ℕ → Option (List ℕ) → Counts → Counts → ReadFault → Type 0
-IsFault told name root before now (At kind file line column subject) = StandsBy kind told name root (At kind file line column subject) × HasRisen kind before now
-IsFault told name root before now NoMemory = Unit {0}
+-- a fault stands first in the files; want of memory has no cause
+abbrev pub IsFault : Option Table → List ℕ → Option (List ℕ) → ReadFault → Type 0
+IsFault told name root (At kind file line column subject) = StandsBy kind told name root (At kind file line column subject)
+IsFault told name root NoMemory = Unit {0}
 
 -- told files read as some input, or some fault stands first in them
 abbrev pub IsReadSome : Table → List ℕ → Option (List ℕ) → Type 0

@@ -4,10 +4,11 @@ ghost use Rattle.std.specs.Prelude.{◌≡◌, ◌≤◌, ◌+◌, ◌∷◌, []
 ghost use Rattle.std.specs.List.{list_all};
 ghost use Rattle.std.specs.Option.{option_map};
 ghost use Rattle.mg_word.specs.Facts.{is_name_byte};
+ghost use Rattle.mg_outside.specs.Counting.{CallEnds};
 ghost use Rattle.cnf_reader.specs.Entering.{FaultIs, IsNotEntered, IsBegun, IsNotBegun, IsAdmitted, IsTakenIn};
 ghost use Rattle.cnf_reader.specs.Frames.{Enters};
 ghost use Rattle.cnf_reader.specs.Openings.{names_tried};
-ghost use Rattle.cnf_reader.specs.Reading.{nothing_kept};
+ghost use Rattle.cnf_reader.specs.Reading.{nothing_kept, result_read};
 
 use crate::fault::{ReadFault, ReadKind};
 use crate::files::OpenFile;
@@ -97,14 +98,10 @@ pub fn enter<F: Files>(
     requires files { length kept.old.files ≤ kept.old.includes + 1 }
     requires asked { IsTrue (list_all is_name_byte asked.now.file) }
     ensures same { F.table files.new ≡ F.table files.old }
-    ensures faults { (F.counts files.old).faults ≤ (F.counts files.new).faults }
-    ensures absences { (F.counts files.old).absences ≤ (F.counts files.new).absences }
-    ensures overruns { (F.counts files.old).overruns ≤ (F.counts files.new).overruns }
+    ensures counted { CallEnds (result_read result) (F.counts files.old) (F.counts files.new) }
     ensures entered { MatchResult result
         (λ inner. Enters (F.table files.old) (option_map (λ r. r.now) root.entry) kept.old file.now depth asked.now kept.new inner)
-        (λ fault. IsNotEntered (F.table files.old) (option_map (λ r. r.now) root.entry) kept.old file.now depth asked.now
-        (F.counts files.old)
-        (F.counts files.new) fault) }
+        (λ fault. IsNotEntered (F.table files.old) (option_map (λ r. r.now) root.entry) kept.old file.now depth asked.now fault) }
     ensures taken { IfOk result (IsTakenIn kept.old kept.new) }
 {
     if kept.includes >= 256 {
@@ -153,14 +150,10 @@ pub fn begin<F: Files>(
 ) -> Result<OpenFile, ReadFault>
     requires { kept.old ≡ nothing_kept }
     ensures same { F.table files.new ≡ F.table files.old }
-    ensures faults { (F.counts files.old).faults ≤ (F.counts files.new).faults }
-    ensures absences { (F.counts files.old).absences ≤ (F.counts files.new).absences }
-    ensures overruns { (F.counts files.old).overruns ≤ (F.counts files.new).overruns }
+    ensures counted { CallEnds (result_read result) (F.counts files.old) (F.counts files.new) }
     ensures begun { MatchResult result
         (λ inner. IsBegun (F.table files.old) name.now kept.old kept.new inner)
-        (λ fault. IsNotBegun (F.table files.old) name.now
-        (F.counts files.old)
-        (F.counts files.new) fault) }
+        (λ fault. IsNotBegun (F.table files.old) name.now fault) }
     ensures taken { IfOk result (IsTakenIn kept.old kept.new) }
 {
     let tries = only(alloc, name)?;

@@ -1,7 +1,8 @@
 //! The opening of files: tries of names, one after the other.
 
 ghost use Rattle.std.specs.Prelude.{◌≡◌, ◌≤◌, IfOk};
-ghost use Rattle.cnf_reader.specs.Openings.{IsTry, IsOpening, names_tried};
+ghost use Rattle.mg_outside.specs.Counting.{CallEnds, counted};
+ghost use Rattle.cnf_reader.specs.Openings.{IsTry, IsOpening, found_read, names_tried, tried_read};
 
 use crate::names::Tries;
 use mg_outside::{Files, ReadAnswer};
@@ -36,12 +37,8 @@ fn try_name<F: Files>(
     limit: u64,
 ) -> Result<Tried, NoMemory>
     ensures same { F.table files.new ≡ F.table files.old }
-    ensures faults { (F.counts files.old).faults ≤ (F.counts files.new).faults }
-    ensures absences { (F.counts files.old).absences ≤ (F.counts files.new).absences }
-    ensures overruns { (F.counts files.old).overruns ≤ (F.counts files.new).overruns }
-    ensures tried { IfOk result (λ tried. IsTry (F.table files.old) name.now limit
-        (F.counts files.old)
-        (F.counts files.new) tried) }
+    ensures counted { F.counts files.new ≡ counted (tried_read result) (F.counts files.old) }
+    ensures tried { IfOk result (λ tried. IsTry (F.table files.old) name.now limit tried) }
 {
     let mut bytes = Vec::new(alloc);
     match files.read(name, limit, &mut bytes) {
@@ -61,12 +58,8 @@ pub fn open<F: Files>(
     limit: u64,
 ) -> Result<Found, NoMemory>
     ensures same { F.table files.new ≡ F.table files.old }
-    ensures faults { (F.counts files.old).faults ≤ (F.counts files.new).faults }
-    ensures absences { (F.counts files.old).absences ≤ (F.counts files.new).absences }
-    ensures overruns { (F.counts files.old).overruns ≤ (F.counts files.new).overruns }
-    ensures opened { IfOk result (λ found. IsOpening (F.table files.old) (names_tried tries) limit
-        (F.counts files.old)
-        (F.counts files.new) found) }
+    ensures counted { CallEnds (found_read result) (F.counts files.old) (F.counts files.new) }
+    ensures opened { IfOk result (λ found. IsOpening (F.table files.old) (names_tried tries) limit found) }
 {
     let Tries { first, second } = tries;
     match try_name(alloc, files, first.as_str(), limit)? {

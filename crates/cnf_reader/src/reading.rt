@@ -2,7 +2,8 @@
 
 ghost use Rattle.std.specs.Prelude.{◌≡◌, ◌≤◌, ◌∷◌, OnOk, IfOk, MatchResult, Some, length};
 ghost use Rattle.std.specs.Option.{option_map};
-ghost use Rattle.cnf_reader.specs.Reading.{Reads, IsFault, nothing_kept};
+ghost use Rattle.mg_outside.specs.Counting.{CallEnds};
+ghost use Rattle.cnf_reader.specs.Reading.{Reads, IsFault, nothing_kept, result_read};
 ghost use Rattle.cnf_reader.specs.Bounds.{IsBounded};
 ghost use Rattle.cnf_reader.specs.Frames.{ReadsKept};
 ghost use Rattle.cnf_reader.specs.Keeping.{input_of};
@@ -61,14 +62,10 @@ fn read_files<F: Files>(
     root: Option<&str>,
 ) -> Result<Kept, ReadFault>
     ensures same { F.table files.new ≡ F.table files.old }
-    ensures faults { (F.counts files.old).faults ≤ (F.counts files.new).faults }
-    ensures absences { (F.counts files.old).absences ≤ (F.counts files.new).absences }
-    ensures overruns { (F.counts files.old).overruns ≤ (F.counts files.new).overruns }
+    ensures counted { CallEnds (result_read result) (F.counts files.old) (F.counts files.new) }
     ensures read { MatchResult result
         (λ kept. ReadsKept (F.table files.old) name.now (option_map (λ r. r.now) root.entry) kept)
-        (λ fault. IsFault (F.table files.old) name.now (option_map (λ r. r.now) root.entry)
-        (F.counts files.old)
-        (F.counts files.new) fault) }
+        (λ fault. IsFault (F.table files.old) name.now (option_map (λ r. r.now) root.entry) fault) }
     ensures sound { IfOk result (λ kept. IsSoundKept kept × (length kept.symbols ≤ 16777216)) }
 {
     let mut kept = make_kept(alloc)?;
@@ -141,15 +138,11 @@ pub fn read_problem<F: Files>(
     root: Option<&str>,
 ) -> Result<Input, ReadFault>
     ensures same { F.table files.new ≡ F.table files.old }
-    ensures faults { (F.counts files.old).faults ≤ (F.counts files.new).faults }
-    ensures absences { (F.counts files.old).absences ≤ (F.counts files.new).absences }
-    ensures overruns { (F.counts files.old).overruns ≤ (F.counts files.new).overruns }
+    ensures counted { CallEnds (result_read result) (F.counts files.old) (F.counts files.new) }
     ensures bounded { IfOk result IsBounded }
     ensures read { MatchResult result
         (λ input. Reads (F.table files.old) name.now (option_map (λ r. r.now) root.entry) input)
-        (λ fault. IsFault (F.table files.old) name.now (option_map (λ r. r.now) root.entry)
-        (F.counts files.old)
-        (F.counts files.new) fault) }
+        (λ fault. IsFault (F.table files.old) name.now (option_map (λ r. r.now) root.entry) fault) }
 {
     match read_files(alloc, files, name, root) {
         Ok(kept) => Ok(make_input(kept)),

@@ -1,6 +1,8 @@
-use Rattle.std.proofs.Common.{◌<◌, ◌∷◌, ◌∙◌, drop, length, subst, arith}
+use Rattle.std.proofs.Common.{◌<◌, ◌∷◌, ◌∙◌, drop, length, subst}
 use Rattle.std.proofs.lemmas.List.Elements.{All-head}
 use Rattle.cnf_reader.specs.Frames.{FileData, IsSoundRun, Reached}
+use Rattle.mg_outside.proofs.Ends.{absences_after, call_after, quiet_ends}
+use Rattle.cnf_reader.proofs.Counted.{whole_file, text_counted}
 use Rattle.cnf_reader.proofs.Answering.{text_met, include_met, begun_reaches, not_begun}
 use Rattle.cnf_reader.proofs.Reaching.{clause_read, file_ended, include_entered}
 use Rattle.cnf_reader.proofs.Running.{run_begun, run_on, run_ended, run_entered, still_entered}
@@ -13,13 +15,11 @@ statements-init g c =
       reached = rw (c.in_ok-push.ensures, c.empty-selections.ensures, c.empty-outer.ensures) (begun_reaches _ _ c.args.name.now c.begin.new.kept c.in-Ok.file begun);
       run = rw c.empty-outer.ensures (run_begun c.begin.new.kept c.in-Ok.file (rw c.in_ok-kept.ensures at c.in-Ok.ensures.taken) (rw begun.file_is begun.within));
       same = c.in-Ok.ensures.same;
-      faults = c.in-Ok.ensures.faults;
-      absences = c.in-Ok.ensures.absences;
-      overruns = c.in-Ok.ensures.overruns;
+      counts = whole_file _ _ c.in-Ok.ensures.counted;
     }
 
 pub returns-in-Err-clause-read : goal.returns-in-Err-clause-read
-returns-in-Err-clause-read g c = not_begun _ _ c.args.name.now _ _ c.in-Err.fault c.in-Err.ensures.begun
+returns-in-Err-clause-read g c = not_begun _ _ c.args.name.now c.in-Err.fault c.in-Err.ensures.begun
 
 pub statements-preserved-in-Clause : goal.statements-preserved-in-Clause
 statements-preserved-in-Clause g c = record {
@@ -29,9 +29,7 @@ statements-preserved-in-Clause g c = record {
       run_on c.statements.kept c.read.new.kept c.statements.file c.in_ok-part.next c.statements.outer c.statements.invariant.run c.in_ok-part.ensures.stays c.in_ok-part.ensures.sound (rw c.in-Clause.is at c.in_ok-part.ensures.advances).0
       (rw c.in-Clause.is at c.in_ok-part.ensures.paid);
   same = c.statements.invariant.same;
-  faults = c.statements.invariant.faults;
-  absences = c.statements.invariant.absences;
-  overruns = c.statements.invariant.overruns;
+  counts = c.statements.invariant.counts;
 }
 
 pub statements-preserved : goal.statements-preserved
@@ -48,20 +46,17 @@ statements-preserved g c =
           (run_on c.statements.kept c.read.new.kept c.statements.file c.in_ok-part.next c.statements.outer c.statements.invariant.run c.in_ok-part.ensures.stays c.in_ok-part.ensures.sound (rw c.in-Include.is at c.in_ok-part.ensures.advances).0
           (rw c.in-Include.is at c.in_ok-part.ensures.paid).0) c.in-Ok-enter.ensures.taken enters.fits);
       same = c.in-Ok-enter.ensures.same ∙ c.statements.invariant.same;
-      faults = omega (arith, c.in-Ok-enter.ensures.faults, c.statements.invariant.faults);
-      absences = omega (arith, c.in-Ok-enter.ensures.absences, c.statements.invariant.absences);
-      overruns = omega (arith, c.in-Ok-enter.ensures.overruns, c.statements.invariant.overruns);
+      counts = absences_after _ _ _ c.statements.invariant.counts (whole_file _ _ c.in-Ok-enter.ensures.counted);
     }
 
 pub returns-in-Err-enter-clause-read : goal.returns-in-Err-enter-clause-read
 returns-in-Err-enter-clause-read g c =
-    include_met _ _ c.args.name.now c.statements.selections c.statements.kept c.read.new.kept c.statements.file c.in_ok-part.next c.statements.outer c.statements.invariant.reached _ _ _ c.in-Include.asked c.in-Err-enter.fault
-    (record { faults = c.statements.invariant.faults; absences = c.statements.invariant.absences; overruns = c.statements.invariant.overruns }) (rw c.in-Include.is at c.in_ok-part.ensures.advances) c.in_ok-part.ensures.stays
+    include_met _ _ c.args.name.now c.statements.selections c.statements.kept c.read.new.kept c.statements.file c.in_ok-part.next c.statements.outer c.statements.invariant.reached c.in-Include.asked c.in-Err-enter.fault (rw c.in-Include.is at c.in_ok-part.ensures.advances) c.in_ok-part.ensures.stays
     (rw (c.statements.invariant.same, c.len.ensures) at c.in-Err-enter.ensures.entered)
 
 pub returns-in-Fault-clause-read : goal.returns-in-Fault-clause-read
 returns-in-Fault-clause-read g c =
-    text_met _ _ c.args.name.now c.statements.selections c.statements.kept c.read.new.kept c.statements.file c.in_ok-part.next c.statements.outer c.statements.invariant.reached _ _ c.in-Fault.kind c.in-Fault.line c.in-Fault.column c.fault_at.result
+    text_met _ _ c.args.name.now c.statements.selections c.statements.kept c.read.new.kept c.statements.file c.in_ok-part.next c.statements.outer c.statements.invariant.reached c.in-Fault.kind c.in-Fault.line c.in-Fault.column c.fault_at.result
     (rw c.in-Fault.is at c.in_ok-part.ensures.advances) (rw c.name.ensures at c.fault_at.ensures)
 
 pub read-requires-clause-file : goal.read-requires-clause-file
@@ -77,9 +72,7 @@ statements-preserved-in-Ended g c =
           (file_ended _ _ c.args.name.now c.statements.selections c.statements.kept c.read.new.kept c.statements.file c.in_ok-part.next c.statements.outer c.statements.invariant.reached (rw c.in-Ended.is at c.in_ok-part.ensures.advances) c.in_ok-part.ensures.stays));
       run = subst (IsSoundRun c.read.new.kept) c.in-Some.ensures (run_ended c.statements.kept c.read.new.kept c.statements.file c.statements.outer c.statements.invariant.run paid);
       same = c.statements.invariant.same;
-      faults = c.statements.invariant.faults;
-      absences = c.statements.invariant.absences;
-      overruns = c.statements.invariant.overruns;
+      counts = c.statements.invariant.counts;
     }
 
 pub statements-smaller : goal.statements-smaller
@@ -88,3 +81,12 @@ statements-smaller g c =
     rw c.in_ok-go_in-in-Include.ensures.1
     (still_entered c.statements.kept c.read.new.kept c.statements.file c.in_ok-part.next c.statements.outer c.in_ok-part.ensures.stays c.enter.new.kept c.in-Ok-enter.inner (rw c.in-Include.is at c.in_ok-part.ensures.paid).0 enters.includes
     c.in-Ok-enter.ensures.taken.few_includes c.in-Ok-enter.ensures.taken enters.fits)
+
+pub returns-in-Err-enter-clause-counted : goal.returns-in-Err-enter-clause-counted
+returns-in-Err-enter-clause-counted g c = call_after _ _ _ _ c.statements.invariant.counts c.in-Err-enter.ensures.counted
+
+pub returns-in-Fault-clause-counted : goal.returns-in-Fault-clause-counted
+returns-in-Fault-clause-counted g c = text_counted c.in-Fault.kind _ _ _ c.fault_at.result _ _ (rw c.in-Fault.is at c.in_ok-part.ensures.advances).1 (rw c.name.ensures at c.fault_at.ensures) c.statements.invariant.counts
+
+pub returns-in_default-clause-counted : goal.returns-in_default-clause-counted
+returns-in_default-clause-counted g c = quiet_ends _ _ c.statements.invariant.counts
