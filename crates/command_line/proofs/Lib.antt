@@ -1,8 +1,8 @@
 pub mod Gaining
 pub mod Memory
 pub mod Strokes
-pub mod Telling
 pub mod Words
-pub mod Exactness
 pub mod OneReject
-pub mod OneAnswer
+pub mod OneReply
+pub mod Outcomes
+pub mod Replying

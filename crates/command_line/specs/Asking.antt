@@ -1,5 +1,5 @@
 -- What the words after the program's name ask for.
-use Rattle.std.specs.Prelude.{◌≡◌, ℕ, Bool, false, not, nat_eq, List, [], ◌∷◌, codes, IsTrue}
+use Rattle.std.specs.Prelude.{◌≡◌, ℕ, Bool, false, not, nat_eq, List, [], ◌∷◌, Option, Some, None, codes, IsTrue}
 
 -- a word that names a file: it is not empty and does not begin with a minus sign
 abbrev pub is_name : List ℕ → Bool
@@ -20,3 +20,8 @@ Asks words (Forms file) = (words ≡ codes "forms" ∷ file ∷ []) × IsTrue (i
 abbrev pub problem_file : Request → List ℕ
 problem_file (Check file tree) = file
 problem_file (Forms file) = file
+
+-- the tree's file that a command names, if it names one
+abbrev pub tree_file : Request → Option (List ℕ)
+tree_file (Check file tree) = Some tree
+tree_file (Forms file) = None

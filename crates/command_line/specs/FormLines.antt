@@ -4,6 +4,8 @@ use Rattle.mg_word.specs.Facts.{ProblemData}
 use Rattle.std.specs.Option.{option_map_or}
 use Rattle.clause_form.specs.Lines.{line_of as line_of_form}
 use Rattle.command_line.specs.Lines.{line_of}
+use Rattle.command_line.specs.declared.printout.Printout.{Printout}
+use Rattle.command_line.specs.declared.status.Status.TheVariants.{Done}
 
 -- the line of the form with that number, without its line feed
 abbrev pub form_line : ProblemData → ℕ → List ℕ
@@ -17,3 +19,7 @@ first_lines problem (suc count) = first_lines problem count ++ line_of (form_lin
 -- a line for each form, and how many they are
 abbrev pub forms_lines : ProblemData → List (List ℕ)
 forms_lines problem = first_lines problem (length problem.forms) ++ line_of (codes "% Forms: " ∷ decimal (length problem.forms) ∷ []) ∷ []
+
+-- the lines of a problem's forms, and the status
+abbrev pub forms_printout : ProblemData → Printout
+forms_printout problem = record { out = forms_lines problem; err = []; status = Done }

@@ -1,13 +1,13 @@
-pub mod Answers
 pub mod Asking
 pub mod Checks
 pub mod FormLines
 pub mod Lines
 pub mod Names
-pub mod Parts
 pub mod Printing
+pub mod Problems
+pub mod Refusals
+pub mod Replies
 pub mod Requests
 pub mod Runs
+pub mod Statuses
 pub mod Troubles
-pub mod Exact
-pub mod OneAnswer

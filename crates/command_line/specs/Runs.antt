@@ -1,14 +1,20 @@
--- What a run is: the main statement on the top call.
-use Rattle.std.specs.Prelude.{◌≡◌, ℕ, List, [], Option, ◌⊎◌}
-use Rattle.mg_outside.specs.Reading.{Table}
-use Rattle.cnf_reader.specs.Reading.{Counts}
-use Rattle.command_line.specs.Asking.{Request, Asks}
-use Rattle.command_line.specs.Lines.{usage_lines}
+-- What a run is: the main statements on the top call.
+use Rattle.std.specs.Prelude.{◌≡◌, ◌≢◌, ℕ, List, Option, Some, ◌⊎◌}
+use Rattle.mg_outside.specs.Causes.{Rose}
+use Rattle.mg_outside.specs.Counting.{Counts, SomeFailed}
 use Rattle.mg_outside.specs.Putting.{SinkSeen}
-use Rattle.command_line.specs.Printing.{Printed}
-use Rattle.command_line.specs.Requests.{AsksNothing}
-use Rattle.command_line.specs.Answers.{HasCause, memory_lines, IsPrinted}
-use Rattle.command_line.specs.declared.answer.Answer.{Answer}
+use Rattle.mg_outside.specs.Reading.{Table}
+use Rattle.command_line.specs.Asking.{Request, Check, Forms, Asks}
+use Rattle.command_line.specs.Checks.{IsChecked}
+use Rattle.command_line.specs.Printing.{Prints, IsWhole}
+use Rattle.command_line.specs.Problems.{IsProblemOf}
+use Rattle.command_line.specs.Refusals.{memory_printout}
+use Rattle.command_line.specs.Replies.{Reply, IsReplyTo, IsRightReply, HasCause, IsCounted, reply_name, printout_of}
+use Rattle.command_line.specs.declared.printout.Printout.{Printout}
+use Rattle.command_line.specs.Statuses.{code}
+use Rattle.command_line.specs.declared.status.Status.TheVariants.{Done, Failed, MemoryOut}
+use Rattle.mg_word.specs.Facts.{ProblemData}
+use Rattle.command_line.specs.declared.szs_report.check.CheckAnswer.TheVariants.{Accepted}
 
 -- what the outside tells and counts: the files and their counts, the output and the messages
 pub record Outside : Type 0 where
@@ -21,23 +27,52 @@ pub record Outside : Type 0 where
 abbrev pub outside_of : {F O E : Type 0} → (F → Option Table) → (F → Counts) → (O → SinkSeen) → (E → SinkSeen) → F → O → E → Outside
 outside_of table counts output messages files out err = record { told = table files; counts = counts files; out = output out; err = messages err }
 
--- the usage is put, or that memory ran out
-abbrev pub IsRefusedPrint : SinkSeen → SinkSeen → SinkSeen → SinkSeen → ℕ → Type 0
-IsRefusedPrint out out' err err' status = Printed out out' err err' [] usage_lines 2 status ⊎ Printed out out' err err' [] memory_lines 4 status
+-- the reply is printed, or that memory ran out in its place
+abbrev pub PrintsReply : Reply → Outside → Outside → ℕ → Type 0
+PrintsReply reply before now status =
+    Prints (printout_of reply) before.out now.out before.err now.err status ⊎ Prints (memory_printout (reply_name reply)) before.out now.out before.err now.err status
 
--- the words ask for no command, and no read is counted
-pub record IsRefused (words : List (List ℕ)) (before now : Outside) (status : ℕ) : Type 0 where
-  pub nothing : AsksNothing words
-  pub unread : now.counts ≡ before.counts
-  pub printed : IsRefusedPrint before.out now.out before.err now.err status
+-- what is printed is a reply to the words that has its cause, or that memory ran out
+pub record Runs (words : List (List ℕ)) (before now : Outside) (status : ℕ) : Type 0 where
+  pub reply : Reply
+  pub to : IsReplyTo words reply
+  pub cause : HasCause before.told reply
+  pub counted : IsCounted reply before.counts now.counts
+  pub printed : PrintsReply reply before now status
 
--- the words ask for a command, its answer has its cause, and its lines are put
-pub record IsAnswered (words : List (List ℕ)) (before now : Outside) (status : ℕ) : Type 0 where
-  pub request : Request
-  pub asks : Asks words request
-  pub answer : Answer
-  pub cause : HasCause request before.told before.counts now.counts answer
-  pub printed : IsPrinted request answer before.out now.out before.err now.err status
+-- no read and no put failed
+pub record NoneFailed (before now : Outside) : Type 0 where
+  pub reads : SomeFailed before.counts now.counts → ⊥
+  pub output : Rose before.out.faults now.out.faults → ⊥
+  pub messages : Rose before.err.faults now.err.faults → ⊥
 
-abbrev pub Runs : List (List ℕ) → Outside → Outside → ℕ → Type 0
-Runs words before now status = IsRefused words before now status ⊎ IsAnswered words before now status
+-- all of the printout was put, and its status is that of the run
+abbrev pub IsPrinted : Printout → Outside → Outside → ℕ → Type 0
+IsPrinted printout before now status = IsWhole printout before.out now.out before.err now.err status
+
+-- where the files are told, and no read and no put failed, every reply that is right is the one that is printed, unless memory ran out
+abbrev pub IsOnly : List (List ℕ) → Outside → Outside → ℕ → Type 0
+IsOnly words before now status =
+    (files : Table) → before.told ≡ Some files → NoneFailed before now → (reply : Reply) → IsRightReply words files reply
+    → IsPrinted (printout_of reply) before now status ⊎ IsPrinted (memory_printout (reply_name reply)) before now status
+
+-- a put failed, by the counts
+abbrev pub SomePutFailed : Outside → Outside → Type 0
+SomePutFailed before now = (now.out.faults ≢ before.out.faults) ⊎ (now.err.faults ≢ before.err.faults)
+
+-- the status of a failure comes where the count of a sink moved, and, unless memory ran out, where that of the files did; where none of the three
+-- rose it does not come
+pub record IsFailure (before now : Outside) (status : ℕ) : Type 0 where
+  pub put : SomePutFailed before now → status ≡ code Failed
+  pub read : now.counts.faults ≢ before.counts.faults → (status ≡ code Failed) ⊎ (status ≡ code MemoryOut)
+  pub cause : status ≡ code Failed → NoneFailed before now → ⊥
+
+-- what is asked for is in these files: a document that is accepted, or a problem
+abbrev pub Succeeds : Table → Request → Type 0
+Succeeds files (Check file tree) = IsChecked (Some files) file tree Accepted
+Succeeds files (Forms file) = (problem : ProblemData) × IsProblemOf (Some files) file problem
+
+-- where the files are told and have what is asked for, and nothing failed, the run succeeds, but for want of memory
+abbrev pub IsExact : List (List ℕ) → Outside → Outside → ℕ → Type 0
+IsExact words before now status =
+    (request : Request) → Asks words request → (files : Table) → before.told ≡ Some files → Succeeds files request → NoneFailed before now → (status ≡ code Done) ⊎ (status ≡ code MemoryOut)

@@ -1,26 +1,27 @@
 //! `mgtp`, a verified model generation theorem prover: the command line over real files and streams.
 #![tactic(auto)]
 
-mod answer;
-mod answering;
+mod check;
+mod forms;
 mod laws;
+mod printout;
+mod problem;
 mod putting;
+mod refusal;
 #[cfg(test)]
 mod report_tests;
-mod reporting;
 mod request;
+mod status;
 mod szs_report;
 #[cfg(test)]
 mod tests;
 mod top;
 
 use mg_outside::{StdFiles, StdSink};
+use status::Status;
 use std::alloc::AllocError;
 use std::process::ExitCode;
 use std::{env, io};
-
-/// The status of a run whose words the runtime refused, as words that are no text.
-const NO_WORDS: u8 = 5;
 
 // The words after the program's name.
 fn words_of(rt: &HostRuntime) -> io::Result<Vec<String>> {
@@ -33,7 +34,7 @@ fn words_of(rt: &HostRuntime) -> io::Result<Vec<String>> {
 
 fn main(rt: HostRuntime) -> ExitCode {
     let Ok(words) = words_of(&rt) else {
-        return ExitCode::from(NO_WORDS);
+        return ExitCode::from(Status::WordsWithheld.code());
     };
     let mut files = StdFiles::new(&rt);
     let mut out = StdSink::new(rt.stdout());

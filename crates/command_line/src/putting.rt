@@ -1,21 +1,19 @@
-//! The putting of reports: the output first, then the messages, and nothing behind a failed put.
+//! The putting of what is printed: the output first, then the messages, and nothing behind a failed
+//! put.
 
-ghost use Rattle.std.specs.Prelude.{◌≡◌, ◌≤◌, ◌<◌, [], ◌∷◌, List, ℕ, map};
+ghost use Rattle.std.specs.Prelude.{◌≡◌, [], ◌∷◌, MatchResult, codes};
 ghost use Rattle.std.specs.List.{flat_map};
-ghost use Rattle.mg_outside.specs.Putting.{Puts};
 ghost use Rattle.std.specs.Option.{option_map};
-ghost use Rattle.command_line.specs.Answers.{memory_lines, memory_status};
-ghost use Rattle.command_line.specs.Lines.{status_line};
-ghost use Rattle.command_line.specs.Printing.{Printed, text_of};
+ghost use Rattle.mg_outside.specs.Putting.{Puts};
+ghost use Rattle.command_line.specs.Printing.{Prints, text_of};
+ghost use Rattle.command_line.specs.Refusals.{memory_printout};
+ghost use Rattle.command_line.specs.Statuses.{code};
 
-use crate::szs_report::{FaultReport, put_report};
+use crate::printout::Printout;
+use crate::status::Status;
+use crate::szs_report::put_report;
 use mg_outside::{PutAnswer, Sink};
-
-/// The status of a run whose lines could not all be put.
-const PUT_FAILED: u8 = 3;
-
-/// The status of a run that memory was not enough for.
-const MEMORY_OUT: u8 = 4;
+use mg_word::NoMemory;
 
 // Puts one piece after the other. At the first failure it stops.
 fn put_pieces<O: Sink>(pieces: &[&[u8]], sink: &mut O) -> PutAnswer
@@ -29,32 +27,22 @@ fn put_pieces<O: Sink>(pieces: &[&[u8]], sink: &mut O) -> PutAnswer
     PutAnswer::Done
 }
 
-/// Puts the lines of an answer, and gives its status, or that of a failed put.
-pub fn put_answer<O: Sink, E: Sink>(
-    report: &FaultReport,
-    status: u8,
-    out: &mut O,
-    err: &mut E,
-) -> u8
-    ensures { Printed
-        (O.seen out.old)
-        (O.seen out.new)
-        (E.seen err.old)
-        (E.seen err.new)
-        report.now.out report.now.err status result }
+// Puts what is printed, and gives its status, or that of a failed put.
+fn put_printout<O: Sink, E: Sink>(printout: &Printout, out: &mut O, err: &mut E) -> Status
+    ensures { Prints printout.now (O.seen out.old) (O.seen out.new) (E.seen err.old) (E.seen err.new) (code result) }
 {
-    if let PutAnswer::Failed = put_report(&report.out, out) {
-        return PUT_FAILED;
+    if let PutAnswer::Failed = put_report(&printout.out, out) {
+        return Status::Failed;
     }
-    if let PutAnswer::Failed = put_report(&report.err, err) {
-        return PUT_FAILED;
+    if let PutAnswer::Failed = put_report(&printout.err, err) {
+        return Status::Failed;
     }
-    status
+    printout.status
 }
 
 // Puts the status line of want of memory, where there is a name for it.
 fn put_memory_status<O: Sink>(name: Option<&str>, out: &mut O) -> PutAnswer
-    ensures { Puts result (O.seen out.old) (O.seen out.new) (text_of (memory_status (option_map (λ name. name.now) name.entry))) }
+    ensures { Puts result (O.seen out.old) (O.seen out.new) (text_of (memory_printout (option_map (λ name. name.now) name.entry)).out) }
 {
     match name {
         None => PutAnswer::Done,
@@ -65,21 +53,35 @@ fn put_memory_status<O: Sink>(name: Option<&str>, out: &mut O) -> PutAnswer
     }
 }
 
-/// Puts, without taking memory, that memory ran out: a status line where a problem was asked for,
-/// and a message.
-pub fn put_memory_out<O: Sink, E: Sink>(name: Option<&str>, out: &mut O, err: &mut E) -> u8
-    ensures { Printed
-        (O.seen out.old)
-        (O.seen out.new)
-        (E.seen err.old)
-        (E.seen err.new)
-        (memory_status (option_map (λ name. name.now) name.entry)) memory_lines 4 result }
+// Puts, without taking memory, that memory ran out: a status line where a problem was asked for, and
+// a message.
+fn put_memory_out<O: Sink, E: Sink>(name: Option<&str>, out: &mut O, err: &mut E) -> Status
+    ensures { Prints (memory_printout (option_map (λ name. name.now) name.entry))
+        (O.seen out.old) (O.seen out.new) (E.seen err.old) (E.seen err.new) (code result) }
 {
     if let PutAnswer::Failed = put_memory_status(name, out) {
-        return PUT_FAILED;
+        return Status::Failed;
     }
     if let PutAnswer::Failed = put_pieces(&[b"mgtp: out of memory\n"], err) {
-        return PUT_FAILED;
+        return Status::Failed;
     }
-    MEMORY_OUT
+    Status::MemoryOut
+}
+
+/// Puts what is printed, or that memory ran out, on the problem of this name where there is one.
+pub fn put_result<O: Sink, E: Sink>(
+    name: Option<&str>,
+    outcome: &Result<Printout, NoMemory>,
+    out: &mut O,
+    err: &mut E,
+) -> Status
+    ensures { MatchResult outcome.now
+        (λ printout. Prints printout (O.seen out.old) (O.seen out.new) (E.seen err.old) (E.seen err.new) (code result))
+        (λ _. Prints (memory_printout (option_map (λ name. name.now) name.entry))
+        (O.seen out.old) (O.seen out.new) (E.seen err.old) (E.seen err.new) (code result)) }
+{
+    match outcome {
+        Ok(printout) => put_printout(printout, out, err),
+        Err(_) => put_memory_out(name, out, err),
+    }
 }

@@ -195,6 +195,7 @@ fn unrestricted_words(
 
 // What is wrong with the form of a clause, in words.
 fn form_words(alloc: Global, clause: &Clause, fault: FormFault) -> Result<Vec<u8>, NoMemory>
+    requires { fault ≢ FormFault.NoMemory }
     ensures { IfOk result (λ words. words.items ≡ form_words clause.now fault) }
 {
     let mut name = Vec::new(alloc);
@@ -219,7 +220,7 @@ fn form_words(alloc: Global, clause: &Clause, fault: FormFault) -> Result<Vec<u8
             form,
             variable,
         } => { unrestricted_words(alloc, &name, form, variable_text(clause, variable)) }
-        FormFault::NoMemory => Ok(Vec::new(alloc)),
+        FormFault::NoMemory => unreachable!(),
     }
 }
 
@@ -230,7 +231,8 @@ fn report_form(
     input: &Input,
     fault: FormFault,
 ) -> Result<FaultReport, NoMemory>
-    requires { faulty_clause fault < length input.now.clauses }
+    requires some { fault ≢ FormFault.NoMemory }
+    requires there { faulty_clause fault < length input.now.clauses }
     ensures out { IfOk result (λ report. report.out ≡ status_line (codes "Inappropriate") name.now ∷ []) }
     ensures err { IfOk result (λ report. report.err ≡ form_messages input.now fault) }
 {
@@ -253,6 +255,7 @@ fn report_form(
 
 // The index of the clause that the fault names.
 fn faulty_clause(fault: FormFault) -> u32
+    requires { fault ≢ FormFault.NoMemory }
     ensures { result ≡ faulty_clause fault }
 {
     match fault {
@@ -263,7 +266,7 @@ fn faulty_clause(fault: FormFault) -> u32
             form: _,
             variable: _,
         } => clause,
-        FormFault::NoMemory => 0,
+        FormFault::NoMemory => unreachable!(),
     }
 }
 
@@ -281,14 +284,7 @@ fn report_tree(
     let mut out = Report::new(alloc);
     add_status(&mut out, value, name)?;
     let mut err = Report::new(alloc);
-    err.add(&[
-        b"mgtp: ",
-        tree.as_bytes(),
-        b": ",
-        words.as_bytes(),
-        b"
-",
-    ])?;
+    err.add(&[b"mgtp: ", tree.as_bytes(), b": ", words.as_bytes(), b"\n"])?;
     Ok(FaultReport { out, err })
 }
 
