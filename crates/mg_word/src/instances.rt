@@ -51,8 +51,13 @@ pub fn instances_of_lits(
     Ok(made)
 }
 
-// The instance of a form with this number.
-fn instance_of_form(alloc: Global, form: &Form, number: u32, subst: Subst) -> Result<Inst, NoMemory>
+/// The instance of a form under these terms, with this number.
+pub fn instance_of_form(
+    alloc: Global,
+    form: &Form,
+    number: u32,
+    subst: Subst,
+) -> Result<Inst, NoMemory>
     ensures { IfOk result (λ made. made ≡ form_instance number subst form.now) }
 {
     let premises = instances_of_lits(alloc, form.premises.as_slice(), &subst)?;

@@ -28,7 +28,7 @@ mod word_laws;
 pub use clause::{Clause, ClauseLit, Name, Place};
 pub use form::{Form, Inst};
 pub use input::Input;
-pub use instances::{inst_of, instance, instance_of_lit, instances_of_lits};
+pub use instances::{inst_of, instance, instance_of_form, instance_of_lit, instances_of_lits};
 pub use item::Item;
 pub use items::Items;
 pub use limits::{MOST_CONCLUSIONS, MOST_FORMS, MOST_ITEMS, MOST_SYMBOLS};
