@@ -1,6 +1,6 @@
 pub mod Gaining
 pub mod Memory
-pub mod Strokes
+pub mod Slashes
 pub mod Words
 pub mod OneReject
 pub mod OneReply

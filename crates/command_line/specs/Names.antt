@@ -2,13 +2,13 @@
 use Rattle.std.specs.Prelude.{ℕ, Bool, ◌&&◌, nat_eq, nat_lt, ◌-◌, List, [], ◌∷◌, length, take, codes, if◌then◌else◌}
 use Rattle.std.specs.List.{list_any, ends_with}
 
-abbrev pub is_stroke : ℕ → Bool
-is_stroke byte = nat_eq byte 47
+abbrev pub is_slash : ℕ → Bool
+is_slash byte = nat_eq byte 47
 
--- what stands behind the last stroke of a path, and the whole path where it has none
+-- what stands behind the last slash of a path, and the whole path where it has none
 abbrev pub last_part : List ℕ → List ℕ
 last_part [] = []
-last_part (byte ∷ bytes) = if list_any is_stroke bytes then last_part bytes else (if is_stroke byte then bytes else byte ∷ bytes)
+last_part (byte ∷ bytes) = if list_any is_slash bytes then last_part bytes else (if is_slash byte then bytes else byte ∷ bytes)
 
 -- the name without a final .p, where something stands before that
 abbrev pub stem_of : List ℕ → List ℕ

@@ -3,7 +3,7 @@
 ghost use Rattle.std.specs.Prelude.{◌≡◌};
 ghost use Rattle.command_line.specs.Names.{name_of, last_part, stem_of};
 
-// What stands behind the last stroke of a path.
+// What stands behind the last slash of a path.
 fn last_part(path: &str) -> &str
     ensures { result.now ≡ last_part path.now }
 {

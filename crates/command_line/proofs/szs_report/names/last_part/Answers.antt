@@ -1,6 +1,6 @@
 use Rattle.std.proofs.Common.{sym, drop, arith}
 use Rattle.std.proofs.lemmas.Str.Pattern.{NoCharPasses-char, drop_at_char}
-use Rattle.command_line.proofs.Strokes.{whole_is_last, stroke_at}
+use Rattle.command_line.proofs.Slashes.{whole_is_last, slash_at}
 use Rattle.command_line.proofs.szs_report.names.last_part.Goals as goal
 
 pub returns-in-None : goal.returns-in-None
@@ -10,5 +10,5 @@ returns-in-None c =
 pub returns-in-Some : goal.returns-in-Some
 returns-in-Some c =
     let cut = c.in-Some.ensures.cases in
-    stroke_at c.args.path.now c.in-Some.behind.now cut.0 cut.1 (drop_at_char 47 c.args.path.now cut.0 cut.1 cut.2.1 (omega arith)) cut.4
+    slash_at c.args.path.now c.in-Some.behind.now cut.0 cut.1 (drop_at_char 47 c.args.path.now cut.0 cut.1 cut.2.1 (omega arith)) cut.4
     (λ k within. NoCharPasses-char 47 (drop cut.1 c.args.path.now) k cut.2.0 (omega arith) within)

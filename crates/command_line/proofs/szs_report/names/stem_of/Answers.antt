@@ -1,4 +1,4 @@
-use Rattle.command_line.proofs.Strokes.{own_stem}
+use Rattle.command_line.proofs.Slashes.{own_stem}
 use Rattle.command_line.proofs.szs_report.names.stem_of.Goals as goal
 
 pub returns-in_default-2 : goal.returns-in_default-2
