@@ -68,7 +68,7 @@ once_covers (t ∷ texts) x h = by (bytes_eq t x) refl (once_covers texts x) h
     by false apart rest k = has_others t x (each_once texts) apart ∙ rest k
 
 -- and no other
-once_covered : (texts : List (List ℕ)) → Covers texts (each_once texts)
+pub once_covered : (texts : List (List ℕ)) → Covers texts (each_once texts)
 once_covered [] x h = h
 once_covered (t ∷ texts) x h =
     later_has (bytes_eq t x) (has_text (others t (each_once texts)) x) (has_text texts x) (λ k. once_covered texts x (others_among t (each_once texts) x k)) h

@@ -32,6 +32,11 @@ pub mod Rising
 pub mod Rooming
 pub mod Limiting
 pub mod Within
+pub mod Tallies
+pub mod Telling
+pub mod RowsMet
+pub mod Clearing
+pub mod Tabled
 pub mod Readying
 pub mod Parting
 pub mod Running

@@ -20,11 +20,12 @@ use Rattle.cnf_reader.proofs.InItems.{conclusions}
 use Rattle.cnf_reader.proofs.Following.{is_selection_start, names_early, Follows}
 use Rattle.cnf_reader.proofs.Stepping.{follows}
 
-placed : (before : List ReadStatement) (state : State) (brackets : List Bracket) (p : Pending) (g : Gathered) (next : Position) → Follows before state brackets p g → Follows before state brackets (record p { position = next }) g
+-- the place where it stands does not matter
+pub placed : (before : List ReadStatement) (state : State) (brackets : List Bracket) (p : Pending) (g : Gathered) (next : Position) → Follows before state brackets p g → Follows before state brackets (record p { position = next }) g
 placed before state brackets p g next h = record { statements = h.statements; name = h.name; draft = h.draft; file = h.file; names = h.names; conclude = h.conclude; item = h.item }
 
 -- nothing of a statement was read, and nothing gathered
-fresh_follows : (before : List ReadStatement) → Follows before Statement [] fresh (gathered before)
+pub fresh_follows : (before : List ReadStatement) → Follows before Statement [] fresh (gathered before)
 fresh_follows before = record {
   statements = refl;
   name = refl;

@@ -1,11 +1,11 @@
 -- A file is read as the statements of a tree say, or a fault stands where its tokens stop.
-use Rattle.std.proofs.Common.{◌≡◌, Bool, true, false, true≢false, List, [], ◌∷◌, ◌++◌, length, map, Option, Some, None, Result, Ok, Err, refl, sym, ap, ◌∙◌, subst, if◌then◌else◌}
+use Rattle.std.proofs.Common.{◌≡◌, ℕ, ◌≤◌, Bool, true, false, true≢false, List, [], ◌∷◌, ◌++◌, length, map, Option, Some, None, Result, Ok, Err, refl, sym, ap, ◌∙◌, subst, if◌then◌else◌}
 use Rattle.std.proofs.lemmas.List.{append-nil, append_assoc, map-append}
 use Rattle.tptp_lexer.specs.Spots.{spot_at}
 use Rattle.tptp_lexer.specs.Tokens.{tokens_of}
 use Rattle.tptp_lexer.specs.declared.token.Token.{Token}
 use Rattle.tptp_lexer.specs.declared.token.LexFault.{LexFault}
-use Rattle.cnf_grammar.specs.Meaning.{meaning}
+use Rattle.cnf_grammar.specs.Meaning.{ClauseLiteral, meaning}
 use Rattle.cnf_grammar.specs.Shapes.{Shape}
 use Rattle.cnf_grammar.specs.Spelling.{spell_statement}
 use Rattle.cnf_grammar.specs.Table.{run, start, is_end}
@@ -25,13 +25,18 @@ use Rattle.cnf_reader.specs.Meanings.{Written, shapes_of, ends_statement, names_
 use Rattle.cnf_reader.specs.Parts.{Lower}
 use Rattle.cnf_reader.specs.Reading.{Source, shape_in, and_then, fault_at, go_on, at_end, read_tokens, read_source}
 use Rattle.cnf_reader.specs.Statements.{fresh, take}
-use Rattle.cnf_reader.specs.Stops.{Stop, at_token, at_text, at_the_end, in_include}
+use Rattle.cnf_reader.specs.Stops.{SaysOfToken, Stop, at_token, at_text, at_the_end, in_include}
 use Rattle.cnf_reader.proofs.Fronts.{front_grows, front_ends}
 use Rattle.cnf_reader.proofs.Meant.{meant, starts_again}
 use Rattle.cnf_reader.proofs.Saying.{shapes_same, says_more, says_spells}
 use Rattle.cnf_reader.proofs.Standing.{Stands, fresh_stands, stands_on, none_taken, begins_next, include_names}
 use Rattle.cnf_reader.proofs.Stopping.{token_says}
-use Rattle.cnf_reader.proofs.Taking.{was_taken}
+use Rattle.cnf_reader.proofs.Taking.{was_taken, took_no_fault, took_fault}
+use Rattle.cnf_reader.proofs.Telling.{Tells, fresh_tells, tells_on}
+use Rattle.cnf_reader.proofs.RowsMet.{fault_stands, fault_met}
+use Rattle.cnf_reader.proofs.Clearing.{none_clear, clear_more, no_fault_there, clause_role}
+use Rattle.cnf_reader.proofs.Within.{clause_limited}
+use Rattle.cnf_reader.specs.Rows.{NoFaultAt, KeepsRules}
 
 module _ (lower : Lower) (source : Source) (first : Kept) where
   abbrev all : List Token
@@ -53,6 +58,8 @@ module _ (lower : Lower) (source : Source) (first : Kept) where
     says : Says lower source first before file kept
     front : TakesFront (is_full kept) source.selections fresh own p
     stands : Stands own p
+    tells : Tells (is_full kept) source.selections (shapes_of own) p
+    clear : NoFaultAt (length kept.clauses) source.selections (shapes_of own)
 
   -- what comes of the file
   abbrev Comes : Result Kept ReadFault → Type 0
@@ -74,11 +81,11 @@ module _ (lower : Lower) (source : Source) (first : Kept) where
     by_end : (ends : Bool) → is_end p.position ≡ ends → (tokens_of source.bytes).fault ≡ None
         → (if ends then Ok kept else fault_at Expected source.name (spot_at source.bytes (length source.bytes)).line (spot_at source.bytes (length source.bytes)).column) ≡ came → Comes came
     by_end true is none e = subst Comes e (whole_file is none)
-    by_end false is none e = subst Comes e (at_the_end none (some_is_front (shapes all) p.position has.runs) (λ file. true≢false (sym ((may_end (shapes all) p.position has.runs).1 file) ∙ is)) refl)
+    by_end false is none e = subst Comes e (at_the_end has.before has.own has.file kept has.cut has.says has.clear none (some_is_front (shapes all) p.position has.runs) (λ file. true≢false (sym ((may_end (shapes all) p.position has.runs).1 file) ∙ is)) refl)
 
     by_text : (text : Option LexFault) → (tokens_of source.bytes).fault ≡ text → at_end source p kept text ≡ came → Comes came
     by_text None none e = by_end (is_end p.position) refl none e
-    by_text (Some text) met e = subst Comes e (at_text text met (some_is_front (shapes all) p.position has.runs) refl)
+    by_text (Some text) met e = subst Comes e (at_text has.before has.own has.file kept text has.cut has.says has.clear met (some_is_front (shapes all) p.position has.runs) refl)
 
   none_left : Reads []
   unfolding read_tokens
@@ -104,6 +111,16 @@ module _ (lower : Lower) (source : Source) (first : Kept) where
         let k = was_taken (is_full kept) source.selections p here.shape here.line here.column next takes in
         ap (run start) (map-append (shape_in source.bytes) passed (token ∷ [])) ∙ (run_step (shapes passed) p.position here.shape has.runs ∙ (k.leads ∙ ap (λ (q : Pending). Some q.position) k.is))
 
+    longer_shapes : shapes_of own ≡ shapes_of has.own ++ here.shape ∷ []
+    longer_shapes = map-append (λ (w : Written). w.shape) has.own (here ∷ [])
+
+    -- no fault stands at it either
+    clear_on : NoFaultAt (length kept.clauses) source.selections (shapes_of own)
+    clear_on =
+        subst (NoFaultAt (length kept.clauses) source.selections) (sym longer_shapes)
+        (clear_more (length kept.clauses) source.selections (shapes_of has.own) here.shape has.clear
+        (λ kind stands. no_fault_there kind (sym (fault_met (is_full kept) source.selections (shapes_of has.own) p has.tells (length kept.clauses) refl here.shape kind stands) ∙ took_no_fault (is_full kept) source.selections p here.shape here.line here.column next takes)))
+
     -- it ends no statement
     goes_on : ends_statement p.position.state ≡ false → Has longer next kept
     goes_on goes = record {
@@ -115,6 +132,8 @@ module _ (lower : Lower) (source : Source) (first : Kept) where
       says = has.says;
       front = front_grows (is_full kept) source.selections fresh has.own p here next has.front goes takes;
       stands = stands_on (is_full kept) source.selections p has.own here next has.stands takes goes;
+      tells = subst (λ u. Tells (is_full kept) source.selections u next) (sym longer_shapes) (tells_on (is_full kept) source.selections (shapes_of has.own) p next here.shape here.line here.column has.tells goes takes);
+      clear = clear_on;
     }
 
     -- it ends one, which means what it holds
@@ -138,18 +157,33 @@ module _ (lower : Lower) (source : Source) (first : Kept) where
             own = [];
             cut = cut_on ∙ sym (append-nil (has.before ++ own));
             file = has.file ++ means.0 ∷ [];
-            says = says_more lower source first has.before has.file kept own means.0 later has.says alone one;
+            says = says_more lower source first has.before has.file kept own means.0 later has.says alone clear_on one;
             front = refl;
             stands = fresh_stands;
+            tells = fresh_tells (is_full later) source.selections;
+            clear = none_clear (length later.clauses) source.selections;
           }
 
     -- it ends a clause
-    keeps : p.position.state ≡ ClauseClosed → Has longer fresh (keep source.selections kept source.number next)
-    keeps is =
-        let m = means ClauseClosed is refl in
-        let later = keep source.selections kept source.number next in
-        says_own ClauseClosed is refl later
-        (subst (λ u. SaysOne lower source kept own u later) (sym m.2.1) (record { statement = next; holds = m.2.2; begins = begins_next (is_full kept) source.selections p has.own here next has.stands takes; is = refl }))
+    module _ (is : p.position.state ≡ ClauseClosed) where
+      rules : KeepsRules (means ClauseClosed is refl).2.0
+      rules =
+          let m = means ClauseClosed is refl in
+          let limits = (clause_limited (is_full kept) source.selections p next here.shape here.line here.column (length (shapes_of has.own)) has.tells.within is takes).0 in
+          let holds = m.2.2 in
+          record {
+            role = clause_role (length kept.clauses) source.selections m.0 m.2.0 m.2.1 (subst (NoFaultAt (length kept.clauses) source.selections) (sym (alone ClauseClosed is refl)) clear_on);
+            literals = subst (λ (l : List ClauseLiteral). length l ≤ 64) holds.literals limits.literals;
+            variables = subst (λ (l : List (List ℕ)). length l ≤ 32) holds.variables limits.variables;
+            items = rw (← holds.literals, ← holds.conclude) limits.choices;
+          }
+
+      keeps : Has longer fresh (keep source.selections kept source.number next)
+      keeps =
+          let m = means ClauseClosed is refl in
+          let later = keep source.selections kept source.number next in
+          says_own ClauseClosed is refl later
+          (subst (λ u. SaysOne lower source kept own u later) (sym m.2.1) (record { statement = next; holds = m.2.2; rules = rules; begins = begins_next (is_full kept) source.selections p has.own here next has.stands takes; is = refl }))
 
     -- it ends an include
     module _ (is : p.position.state ≡ IncludeClosed) where
@@ -165,7 +199,7 @@ module _ (lower : Lower) (source : Source) (first : Kept) where
           let m = means IncludeClosed is refl in
           in_include has.before own (written tokens) has.file m.0 kept next.asked.file (names_seen next.asked.names) next.asked
           (ap written split ∙ (map-append (written_in source.bytes) longer tokens ∙ (ap (λ u. u ++ written tokens) cut_on ∙ append_assoc has.before own (written tokens))))
-          has.says (alone IncludeClosed is refl) m.2 asks reads
+          has.says (alone IncludeClosed is refl) clear_on m.2 asks reads
 
   -- where a token is left
   module _ (token : Token) (tokens : List Token) (reads_on : Reads tokens) (passed : List Token) (p : Pending) (kept : Kept) (came : Result Kept ReadFault) (is : all ≡ passed ++ token ∷ tokens) (has : Has passed p kept) where
@@ -184,7 +218,14 @@ module _ (lower : Lower) (source : Source) (first : Kept) where
 
     by_token : (taken : Result Pending ReadKind) (state : State) → found ≡ taken → p.position.state ≡ state → go_on lower source kept state token taken rest ≡ came → Comes came
     by_token (Err kind) state takes at e =
-        subst Comes e (at_token passed tokens token kind is (token_says (is_full kept) source.selections p (shape_in source.bytes token) (shapes passed) has.runs kind token.line token.column takes) refl)
+        let here = written_in source.bytes token in
+        let before : shapes passed ≡ shapes_of has.before ++ shapes_of has.own = sym (shapes_same source.bytes passed) ∙ (ap shapes_of has.cut ∙ map-append (λ (w : Written). w.shape) has.before has.own) in
+        subst Comes e (at_token has.before has.own (written tokens) here has.file kept kind
+        (ap written is ∙ (map-append (written_in source.bytes) passed (token ∷ tokens) ∙ (ap (λ u. u ++ here ∷ written tokens) has.cut ∙ append_assoc has.before has.own (here ∷ written tokens))))
+        has.says has.clear
+        (fault_stands (is_full kept) source.selections (shapes_of has.own) p has.tells (length kept.clauses) refl here.shape kind (took_fault (is_full kept) source.selections p here.shape here.line here.column kind takes))
+        (subst (λ u. SaysOfToken kind u here.shape) before (token_says (is_full kept) source.selections p here.shape (shapes passed) has.runs kind token.line token.column takes))
+        refl)
     by_token (Ok next) ClauseClosed takes at e = reads_on (passed ++ token ∷ []) fresh (keep source.selections kept source.number next) came split (keeps passed p kept has token next takes at) e
     by_token (Ok next) IncludeClosed takes at e = by_include next (lower next.asked kept) takes at refl e
     by_token (Ok next) state takes at e = reads_on (passed ++ token ∷ []) next kept came split (goes_on passed p kept has token next takes (ap ends_statement at)) e
@@ -201,7 +242,7 @@ module _ (lower : Lower) (source : Source) (first : Kept) where
   -- of all tokens of the file
   comes : (came : Result Kept ReadFault) → read_source lower source first ≡ came → Comes came
   comes came e =
-      reads all [] fresh first came refl (record { runs = refl; before = []; own = []; cut = refl; file = []; says = (refl, refl); front = refl; stands = fresh_stands }) e
+      reads all [] fresh first came refl (record { runs = refl; before = []; own = []; cut = refl; file = []; says = (refl, refl); front = refl; stands = fresh_stands; tells = fresh_tells (is_full first) source.selections; clear = none_clear (length first.clauses) source.selections }) e
 
 -- a file that reads without a fault is read as its statements say
 pub read_as_said : (lower : Lower) (source : Source) (kept after : Kept) → read_source lower source kept ≡ Ok after → IsReadAsSaid lower source kept after

@@ -42,11 +42,11 @@ stays level depth [] s h = pass (is_mark right_square s) (is_mark comma s) _ _ h
 stays level depth (bracket ∷ outer) s h = stay (is_mark (closing bracket) s) _ _ refl (stay_any (info_position level depth (bracket ∷ outer)) s refl)
 
 -- what the grammar gathers of an info's token
-gathers_more : (brackets : List Bracket) (s : Shape) (g : Gathered) → (is_outermost brackets && (is_mark comma s || is_mark right_square s)) ≡ false → record g { item = g.item ++ s ∷ [] } ≡ gather_item brackets s g
+pub gathers_more : (brackets : List Bracket) (s : Shape) (g : Gathered) → (is_outermost brackets && (is_mark comma s || is_mark right_square s)) ≡ false → record g { item = g.item ++ s ∷ [] } ≡ gather_item brackets s g
 gathers_more [] s g h = ap (λ b. cond b (record g { items = g.items ++ g.item ∷ []; item = [] }) (record g { item = g.item ++ s ∷ [] })) (sym h)
 gathers_more (bracket ∷ outer) s g h = refl
 
-gathers_end : (brackets : List Bracket) (s : Shape) (g : Gathered) → (is_outermost brackets && (is_mark comma s || is_mark right_square s)) ≡ true → record g { items = g.items ++ g.item ∷ []; item = [] } ≡ gather_item brackets s g
+pub gathers_end : (brackets : List Bracket) (s : Shape) (g : Gathered) → (is_outermost brackets && (is_mark comma s || is_mark right_square s)) ≡ true → record g { items = g.items ++ g.item ∷ []; item = [] } ≡ gather_item brackets s g
 gathers_end [] s g h = ap (λ b. cond b (record g { items = g.items ++ g.item ∷ []; item = [] }) (record g { item = g.item ++ s ∷ [] })) (sym h)
 gathers_end (bracket ∷ outer) s g h = cc
 

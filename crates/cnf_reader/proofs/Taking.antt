@@ -1,5 +1,5 @@
 -- How a token that is no fault moves the statement under way.
-use Rattle.std.proofs.Common.{◌≡◌, ℕ, ◌+◌, ◌≤◌, Bool, true, false, true≢false, List, Option, Some, None, Ok, refl, sym, ap, ◌∙◌, arith, if◌then◌else◌}
+use Rattle.std.proofs.Common.{◌≡◌, ℕ, ◌+◌, ◌≤◌, Bool, true, false, true≢false, List, Option, Some, None, Ok, Err, refl, sym, ap, ◌∙◌, arith, if◌then◌else◌}
 use Rattle.std.proofs.lemmas.Bool.Decides.{nat_tests}
 use Rattle.mg_word.specs.declared.clause.Name.{Name}
 use Rattle.cnf_grammar.specs.declared.state.State.{State}
@@ -63,22 +63,38 @@ pub record Took (is_full : Bool) (selections : List (Option (List Name))) (p : P
   pub next : Position
   pub leads : step p.position s ≡ Some next
   pub whole : breaks_item p.position.state p s ≡ false
+  pub shallow : is_too_deep next ≡ false
   pub room : limit_fault is_full selections p.position.state p.draft s ≡ None
   pub is : with_token p s line column next ≡ q
 
-no_limit : (is_full : Bool) (selections : List (Option (List Name))) (p : Pending) (s : Shape) (deep : Bool) → (if deep then Some TooDeep else limit_fault is_full selections p.position.state p.draft s) ≡ None → limit_fault is_full selections p.position.state p.draft s ≡ None
+no_limit : (is_full : Bool) (selections : List (Option (List Name))) (p : Pending) (s : Shape) (deep : Bool) → (if deep then Some TooDeep else limit_fault is_full selections p.position.state p.draft s) ≡ None
+    → (limit_fault is_full selections p.position.state p.draft s ≡ None) × (deep ≡ false)
 no_limit is_full selections p s true h = absurd cc
-no_limit is_full selections p s false h = h
+no_limit is_full selections p s false h = (h, refl)
 
 none_stands : (is_full : Bool) (selections : List (Option (List Name))) (p : Pending) (s : Shape) (breaks : Bool) (o : Option Position) → (if breaks then Some BadConclude else fault_before is_full selections p s o) ≡ None
-    → (breaks ≡ false) × (limit_fault is_full selections p.position.state p.draft s ≡ None) × (next : Position) × (o ≡ Some next)
+    → (breaks ≡ false) × (limit_fault is_full selections p.position.state p.draft s ≡ None) × (next : Position) × (o ≡ Some next) × (is_too_deep next ≡ false)
 none_stands is_full selections p s true o h = absurd cc
 none_stands is_full selections p s false None h = absurd cc
-none_stands is_full selections p s false (Some next) h = (refl, no_limit is_full selections p s (is_too_deep next) h, next, refl)
+none_stands is_full selections p s false (Some next) h = let k = no_limit is_full selections p s (is_too_deep next) h in (refl, k.0, next, refl, k.1)
 
 no_fault_met : (p : Pending) (s : Shape) (line column : ℕ) (q : Pending) (fault : Option ReadKind) → taken fault p s line column ≡ Ok q → (fault ≡ None) × (with_token p s line column (position_or p.position (step p.position s)) ≡ q)
 no_fault_met p s line column q None e = (refl, cc)
 no_fault_met p s line column q (Some kind) e = absurd cc
+
+-- no fault stands at a token that was taken
+pub took_no_fault : (is_full : Bool) (selections : List (Option (List Name))) (p : Pending) (s : Shape) (line column : ℕ) (q : Pending) → take is_full selections p s line column ≡ Ok q → fault_here is_full selections p s ≡ None
+unfolding take
+took_no_fault is_full selections p s line column q e = (no_fault_met p s line column q (fault_here is_full selections p s) e).0
+
+was_refused : (p : Pending) (s : Shape) (line column : ℕ) (kind : ReadKind) (fault : Option ReadKind) → taken fault p s line column ≡ Err kind → fault ≡ Some kind
+was_refused p s line column kind None e = absurd cc
+was_refused p s line column kind (Some other) e = cc
+
+-- the fault that is answered for a token stands there
+pub took_fault : (is_full : Bool) (selections : List (Option (List Name))) (p : Pending) (s : Shape) (line column : ℕ) (kind : ReadKind) → take is_full selections p s line column ≡ Err kind → fault_here is_full selections p s ≡ Some kind
+unfolding take
+took_fault is_full selections p s line column kind e = was_refused p s line column kind (fault_here is_full selections p s) e
 
 -- a token that was taken was no fault
 pub was_taken : (is_full : Bool) (selections : List (Option (List Name))) (p : Pending) (s : Shape) (line column : ℕ) (q : Pending) → take is_full selections p s line column ≡ Ok q → Took is_full selections p s line column q
@@ -86,4 +102,4 @@ unfolding take
 was_taken is_full selections p s line column q e =
     let w = no_fault_met p s line column q (fault_here is_full selections p s) e in
     let n = none_stands is_full selections p s (breaks_item p.position.state p s) (step p.position s) w.0 in
-    record { next = n.2; leads = n.3; whole = n.0; room = n.1; is = ap (λ o. with_token p s line column (position_or p.position o)) (sym n.3) ∙ w.1 }
+    record { next = n.2; leads = n.3; whole = n.0; shallow = n.4; room = n.1; is = ap (λ o. with_token p s line column (position_or p.position o)) (sym n.3) ∙ w.1 }

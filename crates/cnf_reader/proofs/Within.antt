@@ -45,7 +45,7 @@ info_leaves false p s = item_leaves p (item_step p.words p.item s)
 
 module _ (p : Pending) (s : Shape) (line column : ℕ) (is_outside : Bool) where
   -- what a token adds to the draft
-  added : (state : State) (depth : ℕ) → (add_at state depth is_outside p s line column).draft ≡ collect_at state depth s p.draft
+  pub added : (state : State) (depth : ℕ) → (add_at state depth is_outside p s line column).draft ≡ collect_at state depth s p.draft
   added Info depth = (info_leaves is_outside p s).0
   added state depth = refl
 

@@ -1,5 +1,5 @@
 -- What is kept of a file, as the statements of a tree say it one after another.
-use Rattle.std.specs.Prelude.{◌≡◌, ℕ, List, [], ◌∷◌, ◌++◌, Option, None, Result, Ok, map}
+use Rattle.std.specs.Prelude.{◌≡◌, ℕ, List, [], ◌∷◌, ◌++◌, Option, None, Result, Ok, map, length}
 use Rattle.tptp_lexer.specs.Tokens.{tokens_of}
 use Rattle.tptp_lexer.specs.declared.token.Token.{Token}
 use Rattle.cnf_grammar.specs.Shapes.{Shape}
@@ -11,6 +11,7 @@ use Rattle.cnf_reader.specs.declared.pending.Asked.{Asked}
 use Rattle.cnf_reader.specs.declared.pending.Pending.{Pending}
 use Rattle.cnf_reader.specs.declared.kept.Kept.{Kept}
 use Rattle.cnf_reader.specs.Keeping.{keep}
+use Rattle.cnf_reader.specs.Rows.{NoFaultAt, KeepsRules}
 use Rattle.cnf_reader.specs.Meanings.{Written, shapes_of, names_seen, HoldsClause}
 use Rattle.cnf_reader.specs.Reading.{Source, shape_in}
 
@@ -36,10 +37,11 @@ abbrev pub NameFileAt : List Written → ℕ → ℕ → Type 0
 NameFileAt (word ∷ bracket ∷ file ∷ more) line column = (line ≡ file.line) × (column ≡ file.column)
 NameFileAt _ line column = ⊥
 
--- the clause that these tokens say is kept, with their place, where the selections have its name
+-- the clause that these tokens say keeps the rules, and is kept, with their place, where the selections have its name
 pub record KeepsClause (source : Source) (kept : Kept) (tokens : List Written) (c : ReadClause) (next : Kept) : Type 0 where
   pub statement : Pending
   pub holds : HoldsClause statement c
+  pub rules : KeepsRules c
   pub begins : BeginAt tokens statement.line statement.column
   pub is : next ≡ keep source.selections kept source.number statement
 
@@ -60,11 +62,11 @@ abbrev pub SaysOne : (Asked → Kept → Result Kept ReadFault) → Source → K
 SaysOne lower source kept tokens (read_clause c) next = KeepsClause source kept tokens c next
 SaysOne lower source kept tokens (read_include file names) next = FollowsInclude lower kept tokens file names next
 
--- what statements make of it one after another, each of its own tokens
+-- what statements make of it one after another, each of its own tokens, at none of which a fault stands
 abbrev pub Says : (Asked → Kept → Result Kept ReadFault) → Source → Kept → List Written → List Statement → Kept → Type 0
 Says lower source kept tokens [] after = (tokens ≡ []) × (after ≡ kept)
 Says lower source kept tokens (statement ∷ more) after =
-    (own rest : List Written) × (tokens ≡ own ++ rest) × (spell_statement statement ≡ shapes_of own)
+    (own rest : List Written) × (tokens ≡ own ++ rest) × (spell_statement statement ≡ shapes_of own) × NoFaultAt (length kept.clauses) source.selections (shapes_of own)
     × (next : Kept) × SaysOne lower source kept own (meaning statement) next × Says lower source next rest more after
 
 -- the whole file is a tree, and what is kept once it is read is what the tree's statements say

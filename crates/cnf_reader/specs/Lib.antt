@@ -12,6 +12,7 @@ pub mod Entering
 pub mod Bounds
 pub mod Selecting
 pub mod Meanings
+pub mod Rows
 pub mod Files
 pub mod Stops
 pub mod Sound

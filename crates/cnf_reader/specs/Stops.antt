@@ -16,6 +16,7 @@ use Rattle.cnf_reader.specs.declared.fault.ReadFault.TheVariants.{At}
 use Rattle.cnf_reader.specs.declared.pending.Asked.{Asked}
 use Rattle.cnf_reader.specs.declared.kept.Kept.{Kept}
 use Rattle.cnf_reader.specs.Files.{shapes_in, written_tokens, AsksFor, Says}
+use Rattle.cnf_reader.specs.Rows.{FaultAt, NoFaultAt}
 use Rattle.cnf_reader.specs.Meanings.{Written, shapes_of}
 use Rattle.cnf_reader.specs.Reading.{Source, shape_in}
 
@@ -37,14 +38,17 @@ SaysOfToken _ before s = ⊥
 
 -- how a fault stands in a file that is read where this is kept; `lower` reads the file of an include
 pub data Stop (lower : Asked → Kept → Result Kept ReadFault) (source : Source) (kept : Kept) (fault : ReadFault) : Type 0 where
-  -- at a token
-  at_token : (before more : List Token) (token : Token) (kind : ReadKind) → (tokens_of source.bytes).tokens ≡ before ++ token ∷ more → SaysOfToken kind (shapes_in source.bytes before) (shape_in source.bytes token)
-      → fault ≡ At kind source.name token.line token.column [] → Stop lower source kept fault
+  -- at a token, by a row of the table of faults, where none stands at a token before it
+  at_token : (before own more : List Written) (token : Written) (file : List Statement) (by_then : Kept) (kind : ReadKind) → written_tokens source.bytes ≡ before ++ (own ++ token ∷ more)
+      → Says lower source kept before file by_then → NoFaultAt (length by_then.clauses) source.selections (shapes_of own) → FaultAt (length by_then.clauses) source.selections (shapes_of own) token.shape kind
+      → SaysOfToken kind (shapes_of before ++ shapes_of own) token.shape → fault ≡ At kind source.name token.line token.column [] → Stop lower source kept fault
   -- behind the last token, where no more token can be read
-  at_text : (text : LexFault) → (tokens_of source.bytes).fault ≡ Some text → IsFront (shapes_in source.bytes (tokens_of source.bytes).tokens) → fault ≡ At (Lex text.kind) source.name text.line text.column [] → Stop lower source kept fault
+  at_text : (before own : List Written) (file : List Statement) (by_then : Kept) (text : LexFault) → written_tokens source.bytes ≡ before ++ own → Says lower source kept before file by_then → NoFaultAt (length by_then.clauses) source.selections (shapes_of own)
+      → (tokens_of source.bytes).fault ≡ Some text → IsFront (shapes_in source.bytes (tokens_of source.bytes).tokens) → fault ≡ At (Lex text.kind) source.name text.line text.column [] → Stop lower source kept fault
   -- at the end, where the tokens are the front of a file and no file
-  at_the_end : (tokens_of source.bytes).fault ≡ None → IsFront (shapes_in source.bytes (tokens_of source.bytes).tokens) → (IsFile (shapes_in source.bytes (tokens_of source.bytes).tokens) → ⊥)
+  at_the_end : (before own : List Written) (file : List Statement) (by_then : Kept) → written_tokens source.bytes ≡ before ++ own → Says lower source kept before file by_then → NoFaultAt (length by_then.clauses) source.selections (shapes_of own)
+      → (tokens_of source.bytes).fault ≡ None → IsFront (shapes_in source.bytes (tokens_of source.bytes).tokens) → (IsFile (shapes_in source.bytes (tokens_of source.bytes).tokens) → ⊥)
       → fault ≡ At Expected source.name (spot_at source.bytes (length source.bytes)).line (spot_at source.bytes (length source.bytes)).column [] → Stop lower source kept fault
   -- in the file of an include, the statements before which say what is kept by then
   in_include : (before own more : List Written) (file : List Statement) (statement : Statement) (by_then : Kept) (text : List ℕ) (names : Option (List Named)) (asked : Asked) → written_tokens source.bytes ≡ before ++ (own ++ more)
-      → Says lower source kept before file by_then → spell_statement statement ≡ shapes_of own → meaning statement ≡ read_include text names → AsksFor own text names asked → lower asked by_then ≡ Err fault → Stop lower source kept fault
+      → Says lower source kept before file by_then → spell_statement statement ≡ shapes_of own → NoFaultAt (length by_then.clauses) source.selections (shapes_of own) → meaning statement ≡ read_include text names → AsksFor own text names asked → lower asked by_then ≡ Err fault → Stop lower source kept fault

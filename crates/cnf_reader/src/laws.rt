@@ -1,23 +1,24 @@
 //! That reading is a function of the files, that a statement, and so a file, is read as what it means, and that the numbers
 //! of symbols stand for those that were read. The functions do nothing: each is called for what it ensures.
 
-ghost use Rattle.std.specs.Prelude.{◌≡◌, ◌≢◌, ◌⊎◌, ℕ, Bool, List, ◌++◌, AllPairs, Option, Some, Result, Ok, Err};
+ghost use Rattle.std.specs.Prelude.{◌≡◌, ◌≢◌, ◌⊎◌, ◌↔◌, ℕ, Bool, List, ◌++◌, AllPairs, Option, Some, Result, Ok, Err, nat_le};
 ghost use Rattle.mg_word.specs.declared.clause.Name.{Name};
 ghost use Rattle.cnf_grammar.specs.declared.state.State.{State};
-ghost use Rattle.cnf_grammar.specs.declared.state.State.TheVariants.{Statement};
 ghost use Rattle.cnf_grammar.specs.Table.{start};
 ghost use Rattle.cnf_grammar.specs.Meaning.{ClauseLiteral};
 ghost use Rattle.mg_word.specs.Facts.{InputData};
 ghost use Rattle.mg_word.specs.Table.{Symbol};
 ghost use Rattle.mg_outside.specs.Reading.{Table};
 ghost use Rattle.cnf_reader.specs.declared.fault.ReadFault.{ReadFault};
+ghost use Rattle.cnf_reader.specs.declared.fault.ReadKind.{ReadKind};
 ghost use Rattle.cnf_reader.specs.declared.kept.Kept.{Kept};
 ghost use Rattle.cnf_reader.specs.declared.pending.Asked.{Asked};
 ghost use Rattle.cnf_reader.specs.declared.pending.Pending.{Pending};
 ghost use Rattle.cnf_reader.specs.Reading.{Source, Reads, StandsFirst, IsReadSome, read_source};
-ghost use Rattle.cnf_reader.specs.Statements.{fresh};
-ghost use Rattle.cnf_reader.specs.Meanings.{Written, TakesStatement, HoldsItsMeaning};
+ghost use Rattle.cnf_reader.specs.Statements.{fresh, take};
+ghost use Rattle.cnf_reader.specs.Meanings.{Written, shapes_of, TakesFront, TakesStatement, HoldsItsMeaning};
 ghost use Rattle.cnf_reader.specs.Files.{IsReadAsSaid};
+ghost use Rattle.cnf_reader.specs.Rows.{FaultAt};
 ghost use Rattle.cnf_reader.specs.Stops.{Stop};
 ghost use Rattle.cnf_reader.specs.Keeping.{with_literals, numbered_literals};
 ghost use Rattle.cnf_reader.specs.Numbers.{LiteralsStandFor, GoesOnBy};
@@ -52,12 +53,21 @@ pub fn each_file_is_read_as_its_statements()
     ensures { (lower : Asked → Kept → Result Kept ReadFault) (source : Source) (kept after : Kept) → read_source lower source kept ≡ Ok after → IsReadAsSaid lower source kept after }
 {}
 
-/// A fault of a file stands at one of its tokens, at its end, or in the file of an include. Where it
-/// is that a token is not expected, the tokens before it are the front of some file, and with it
-/// they are not; where it is that a limit is passed, they still are. What is kept at an include is
-/// what the statements before it say.
+/// A fault of a file stands at one of its tokens, at its end, in its text, or in the file of an
+/// include, and none stands at a token before it. At a token it stands by a row of the table of
+/// faults, which tells its kind. Where it is that the token is not expected, the tokens before it
+/// are the front of some file, and with it they are not; where it is that a limit is passed, they
+/// still are. What is kept by then is what the statements before it say.
 pub fn faults_stand_where_the_grammar_stops()
     ensures { (lower : Asked → Kept → Result Kept ReadFault) (source : Source) (kept : Kept) (fault : ReadFault) → read_source lower source kept ≡ Err fault → Stop lower source kept fault }
+{}
+
+/// Where the tokens of a statement up to this one are taken without a fault, a fault of this kind
+/// stands at this one exactly where a row of the table of faults says so, by the tokens before it,
+/// the token, and how many clauses are kept.
+pub fn faults_are_the_rows_of_a_table()
+    ensures { (clauses : ℕ) (selections : List (Option (List Name))) (own : List Written) (p : Pending) (token : Written) (kind : ReadKind) → TakesFront (nat_le 20000 clauses) selections fresh own p
+        → (take (nat_le 20000 clauses) selections p token.shape token.line token.column ≡ Err kind) ↔ FaultAt clauses selections (shapes_of own) token.shape kind }
 {}
 
 /// Each number in the literals of a clause stands for the symbol that was read there, by name, arity

@@ -1,4 +1,5 @@
-//! Faults at their places, and what is read, over files in memory. The expected values are worked out by hand.
+//! Faults at their places, and what is read, over files in memory. Each row of the table of faults and each limit has rows here; the expected
+//! values are worked out by hand.
 
 use crate::{ReadFault, ReadKind, read_problem};
 use mg_outside::MemoryFiles;
@@ -8,8 +9,11 @@ use std::process::Abort;
 use std::test::Fail;
 use tptp_lexer::LexKind;
 
-// Files in memory with these names and texts.
-fn memory(alloc: Global, listed: &[(&str, &str)]) -> Result<MemoryFiles, Fail> {
+/// The most bytes of all files of a problem together.
+const MOST_BYTES: usize = 16_777_216;
+
+// Files in memory with these names and texts, where the calls with these numbers fail.
+fn memory(alloc: Global, listed: &[(&str, &str)], failing: &[u64]) -> Result<MemoryFiles, Fail> {
     let mut files: Vec<(Text, Vec<u8>)> = Vec::new(alloc);
     for (name, text) in listed {
         files.push((
@@ -17,23 +21,53 @@ fn memory(alloc: Global, listed: &[(&str, &str)]) -> Result<MemoryFiles, Fail> {
             Vec::from_slice(alloc, text.as_bytes())?,
         ))?;
     }
-    Ok(MemoryFiles::new(files, Vec::new(alloc))?)
+    Ok(MemoryFiles::new(files, Vec::from_slice(alloc, failing)?)?)
 }
 
-// The fault of a problem whose one file is `f.p`: its kind, line and column; None where it is read.
-fn fault_of(alloc: Global, text: &str) -> Result<Option<(ReadKind, u32, u32)>, Fail> {
-    let mut files = memory(alloc, &[("f.p", text), ("e.p", "")])?;
-    match read_problem(alloc, &mut files, "f.p", None) {
+/// A fault: its kind, the name of its file, its line and column, and its subject.
+#[derive(Drop)]
+struct Met {
+    kind: ReadKind,
+    file: Text,
+    line: u32,
+    column: u32,
+    subject: Text,
+}
+
+// The fault of a problem, where it has one.
+fn first_fault(
+    alloc: Global,
+    files: &mut MemoryFiles,
+    name: &str,
+    root: Option<&str>,
+) -> Result<Option<Met>, Fail> {
+    match read_problem(alloc, files, name, root) {
         Ok(_) => Ok(None),
         Err(
             ReadFault::At {
                 kind,
+                file,
                 line,
                 column,
-                ..
+                subject,
             },
-        ) => Ok(Some((kind, line, column))),
+        ) => Ok(Some(Met {
+            kind,
+            file,
+            line,
+            column,
+            subject,
+        })),
         Err(ReadFault::NoMemory) => Err(Fail::from("no memory")),
+    }
+}
+
+// The fault of a problem whose file is `f.p`, beside an empty `e.p`: its kind, line and column; None where it is read.
+fn fault_of(alloc: Global, text: &str) -> Result<Option<(ReadKind, u32, u32)>, Fail> {
+    let mut files = memory(alloc, &[("f.p", text), ("e.p", "")], &[])?;
+    match first_fault(alloc, &mut files, "f.p", None)? {
+        None => Ok(None),
+        Some(fault) => Ok(Some((fault.kind, fault.line, fault.column))),
     }
 }
 
@@ -56,32 +90,185 @@ fn check(
     Ok(())
 }
 
+// The fault of these files stands in this file, at this line and column, with this subject.
+fn check_met(
+    rt: &impl Abort,
+    fault: Option<Met>,
+    kind: ReadKind,
+    file: &str,
+    column: u32,
+    subject: &str,
+) {
+    match fault {
+        None => {
+            assert!(rt; false, "it is read");
+        }
+        Some(fault) => {
+            assert!(rt;
+                fault.kind == kind && fault.line == 1 && fault.column == column,
+                "{file}"
+            );
+            assert!(rt; fault.file.as_slice() == file.as_bytes(), "{file}");
+            assert!(rt; fault.subject.as_slice() == subject.as_bytes(), "{file}");
+        }
+    }
+}
+
 #[test]
 fn faults_stand_at_their_places(rt: HostRuntime) -> Result<(), Fail> {
     let alloc = rt.alloc();
     for (text, kind, line, column) in [
-        ("cnf(a,axiom,a=b).", ReadKind::Equality, 1, 14),
-        ("cnf(x,axiom,p('a", ReadKind::Lex(LexKind::OpenQuote), 1, 15),
-        ("cnf(a,axiom,p(a)", ReadKind::Expected, 1, 17),
-        ("include('f.p').", ReadKind::IncludeDepth, 1, 9),
         (
-            "cnf(c,axiom,p,unknown,[conclude([2])]).",
-            ReadKind::BadConclude,
+            "cnf(a,axiom,p).\n\u{1}",
+            ReadKind::Lex(LexKind::BadByte),
+            2,
             1,
-            34,
         ),
-        ("\nfof(c,axiom,p).", ReadKind::NotCnf, 2, 1),
-        ("cnf(c,question,p).", ReadKind::Role, 1, 7),
+        (
+            "cnf('\u{7f}',axiom,p).",
+            ReadKind::Lex(LexKind::BadByte),
+            1,
+            6,
+        ),
+        ("cnf(x,axiom,p('a", ReadKind::Lex(LexKind::OpenQuote), 1, 15),
+        (
+            "cnf(x,axiom,p(\"a\n",
+            ReadKind::Lex(LexKind::OpenQuote),
+            1,
+            15,
+        ),
+        (
+            "cnf('a\\b',axiom,p).",
+            ReadKind::Lex(LexKind::BadEscape),
+            1,
+            7,
+        ),
+        (
+            "cnf(a,axiom,p). /* c",
+            ReadKind::Lex(LexKind::OpenComment),
+            1,
+            17,
+        ),
+        ("p", ReadKind::Expected, 1, 1),
+        ("thy(a,axiom,p).", ReadKind::Expected, 1, 1),
+        ("cnf(X,axiom,p).", ReadKind::Expected, 1, 5),
+        ("cnf(a axiom,p).", ReadKind::Expected, 1, 7),
+        ("cnf(a,'axiom',p).", ReadKind::Expected, 1, 7),
+        ("cnf(a,axiom,~~p).", ReadKind::Expected, 1, 14),
+        ("cnf(a,axiom,p()).", ReadKind::Expected, 1, 15),
+        ("cnf(a,axiom,(p)=q).", ReadKind::Expected, 1, 16),
+        ("cnf(a,axiom,(p)|q).", ReadKind::Expected, 1, 16),
+        ("cnf(a,axiom,p,a,b).", ReadKind::Expected, 1, 17),
+        ("cnf(a,axiom,p,f(]).", ReadKind::Expected, 1, 17),
+        ("cnf(a,axiom,p(a)", ReadKind::Expected, 1, 17),
+        ("include('').", ReadKind::Expected, 1, 9),
+        ("cnf(a,axiom,a=b).", ReadKind::Equality, 1, 14),
+        ("cnf(a,axiom,a!=b).", ReadKind::Equality, 1, 14),
+        ("cnf(a,axiom,p(a)=b).", ReadKind::Equality, 1, 17),
+        ("cnf(a,axiom,p(a=b)).", ReadKind::Equality, 1, 16),
+        ("cnf(a,axiom,p(X!=b)).", ReadKind::Equality, 1, 16),
+        ("cnf(a,axiom,$true=a).", ReadKind::Equality, 1, 18),
+        ("cnf(a,axiom,X=a).", ReadKind::Equality, 1, 13),
+        ("cnf(a,axiom,1=a).", ReadKind::Equality, 1, 13),
+        ("cnf(a,axiom,-1=a).", ReadKind::Equality, 1, 13),
+        ("cnf(a,axiom,\"x\"=a).", ReadKind::Equality, 1, 13),
+        ("cnf(a,axiom,~X).", ReadKind::Equality, 1, 14),
+        ("cnf(a,axiom,(X)).", ReadKind::Equality, 1, 14),
+        ("cnf(a,axiom,p|X).", ReadKind::Equality, 1, 15),
         ("cnf(c,axiom,p(-1)).", ReadKind::Number, 1, 15),
+        ("cnf(c,axiom,p(1.5)).", ReadKind::Number, 1, 15),
+        ("cnf(c,axiom,p(01)).", ReadKind::Number, 1, 15),
+        ("cnf(c,axiom,p(a,1/2)).", ReadKind::Number, 1, 17),
         ("cnf(c,axiom,$less).", ReadKind::Defined, 1, 13),
-        ("include('no.p').", ReadKind::IncludeAbsent, 1, 9),
+        ("cnf(c,axiom,~$o).", ReadKind::Defined, 1, 14),
+        ("cnf(c,axiom,p|$$t).", ReadKind::Defined, 1, 15),
+        ("cnf(c,axiom,p($x)).", ReadKind::Defined, 1, 15),
+        ("cnf(c,axiom,p($true)).", ReadKind::Defined, 1, 15),
     ] {
         check(&rt, alloc, text, Some((kind, line, column)))?;
     }
     for text in [
         "",
         "cnf(1,plain,(~'p'(\"x\",12,X)|$true),a,[conclude([1]),b]).",
+        "cnf(a,axiom,p,(a=b,-1,$x,X),[a != b]).",
         "% c\n",
+    ] {
+        check(&rt, alloc, text, None)?;
+    }
+    Ok(())
+}
+
+#[test]
+fn words_are_told_apart(rt: HostRuntime) -> Result<(), Fail> {
+    let alloc = rt.alloc();
+    for (text, kind, line, column) in [
+        ("fof(c,axiom,p).", ReadKind::NotCnf, 1, 1),
+        ("tff(c,axiom,p).", ReadKind::NotCnf, 1, 1),
+        ("thf(c,axiom,p).", ReadKind::NotCnf, 1, 1),
+        ("tcf(c,axiom,p).", ReadKind::NotCnf, 1, 1),
+        ("cnf(c,axiom,p).\ntpi(c,axiom,p).", ReadKind::NotCnf, 2, 1),
+        ("cnf(c,question,p).", ReadKind::Role, 1, 7),
+        ("cnf(c,conjecture,p).", ReadKind::Role, 1, 7),
+        ("cnf(c,unknown,p).", ReadKind::Role, 1, 7),
+        ("cnf(c,type,p).", ReadKind::Role, 1, 7),
+        ("cnf(c,axioms,p).", ReadKind::Role, 1, 7),
+        (
+            "cnf(c,axiom,p,u,[conclude([2])]).",
+            ReadKind::BadConclude,
+            1,
+            28,
+        ),
+        (
+            "cnf(c,axiom,p,u,[conclude([0])]).",
+            ReadKind::BadConclude,
+            1,
+            28,
+        ),
+        (
+            "cnf(c,axiom,p,u,[conclude(1)]).",
+            ReadKind::BadConclude,
+            1,
+            27,
+        ),
+        (
+            "cnf(c,axiom,p,u,[conclude([])x]).",
+            ReadKind::BadConclude,
+            1,
+            30,
+        ),
+        (
+            "cnf(c,axiom,p|q,u,[conclude([2,1])]).",
+            ReadKind::BadConclude,
+            1,
+            31,
+        ),
+        (
+            "cnf(c,axiom,p|q,u,[conclude([1,1])]).",
+            ReadKind::BadConclude,
+            1,
+            32,
+        ),
+        (
+            "cnf(c,axiom,p|$true,u,[conclude([2])]).",
+            ReadKind::BadConclude,
+            1,
+            34,
+        ),
+    ] {
+        check(&rt, alloc, text, Some((kind, line, column)))?;
+    }
+    for text in [
+        "cnf(c,axiom,p).",
+        "cnf(c,hypothesis,p).",
+        "cnf(c,definition,p).",
+        "cnf(c,assumption,p).",
+        "cnf(c,lemma,p).",
+        "cnf(c,theorem,p).",
+        "cnf(c,corollary,p).",
+        "cnf(c,negated_conjecture,p).",
+        "cnf(c,plain,p).",
+        "cnf(c,axiom,p|q,u,[conclude([1,2]),conclude([])]).",
+        "cnf(c,axiom,p,u,['conclude'([9]),conclude,a(conclude([9]))]).",
     ] {
         check(&rt, alloc, text, None)?;
     }
@@ -93,17 +280,18 @@ fn limits_hold(rt: HostRuntime) -> Result<(), Fail> {
     let alloc = rt.alloc();
     let full = repeated(alloc, "cnf(c,axiom,", "p|", 63, "p).")?;
     check(&rt, alloc, full.as_str(), None)?;
-    let more = repeated(alloc, "cnf(c,axiom,", "p|", 64, "p).")?;
-    check(
-        &rt,
-        alloc,
-        more.as_str(),
-        Some((ReadKind::TooManyLiterals, 1, 141)),
-    )?;
-    let deep = repeated(alloc, "cnf(c,axiom,", "(", 101, "p")?;
-    check(&rt, alloc, deep.as_str(), Some((ReadKind::TooDeep, 1, 113)))?;
+    for (end, kind) in [
+        ("p).", ReadKind::TooManyLiterals),
+        ("~p).", ReadKind::TooManyLiterals),
+        ("$true).", ReadKind::TooManyLiterals),
+        ("X).", ReadKind::Equality),
+        (").", ReadKind::Expected),
+    ] {
+        let more = repeated(alloc, "cnf(c,axiom,", "p|", 64, end)?;
+        check(&rt, alloc, more.as_str(), Some((kind, 1, 141)))?;
+    }
     let fits =
-        "cnf(c,axiom,~p(X01,X02,X03,X04,X05,X06,X07,X08,X09,X10,X11,X12,X13,X14,X15,X16,X17,X18,X19,X20,X21,X22,X23,X24,X25,X26,X27,X28,X29,X30,X31,X32)).";
+        "cnf(c,axiom,~p(X01,X02,X03,X04,X05,X06,X07,X08,X09,X10,X11,X12,X13,X14,X15,X16,X17,X18,X19,X20,X21,X22,X23,X24,X25,X26,X27,X28,X29,X30,X31,X32,X01)).";
     check(&rt, alloc, fits, None)?;
     let passes =
         "cnf(c,axiom,~p(X01,X02,X03,X04,X05,X06,X07,X08,X09,X10,X11,X12,X13,X14,X15,X16,X17,X18,X19,X20,X21,X22,X23,X24,X25,X26,X27,X28,X29,X30,X31,X32,X33)).";
@@ -121,7 +309,195 @@ fn limits_hold(rt: HostRuntime) -> Result<(), Fail> {
         alloc,
         too_many.as_str(),
         Some((ReadKind::TooManyIncludes, 257, 9)),
+    )?;
+    let clauses = repeated(alloc, "", "cnf(c,axiom,p).\n", 20_000, "")?;
+    check(&rt, alloc, clauses.as_str(), None)?;
+    let one_more = repeated(alloc, "", "cnf(c,axiom,p).\n", 20_001, "")?;
+    check(
+        &rt,
+        alloc,
+        one_more.as_str(),
+        Some((ReadKind::TooManyClauses, 20_001, 5)),
     )
+}
+
+// This part so many times, a word, and that part as many times.
+fn nested(
+    alloc: Global,
+    front: &str,
+    open: &str,
+    count: u32,
+    inner: &str,
+    end: &str,
+) -> Result<String, Fail> {
+    let mut text = repeated(alloc, front, open, count, inner)?;
+    for _ in 0..count {
+        text.push_str(")")?;
+    }
+    text.push_str(end)?;
+    Ok(text)
+}
+
+#[test]
+fn brackets_nest_a_hundred_deep(rt: HostRuntime) -> Result<(), Fail> {
+    let alloc = rt.alloc();
+    let formula = nested(alloc, "cnf(c,axiom,", "(", 100, "p", ").")?;
+    check(&rt, alloc, formula.as_str(), None)?;
+    let deep = repeated(alloc, "cnf(c,axiom,", "(", 101, "p")?;
+    check(&rt, alloc, deep.as_str(), Some((ReadKind::TooDeep, 1, 113)))?;
+    let terms = nested(alloc, "cnf(c,axiom,", "f(", 100, "a", ").")?;
+    check(&rt, alloc, terms.as_str(), None)?;
+    let deep_terms = repeated(alloc, "cnf(c,axiom,", "f(", 101, "a")?;
+    check(
+        &rt,
+        alloc,
+        deep_terms.as_str(),
+        Some((ReadKind::TooDeep, 1, 214)),
+    )?;
+    // In annotations brackets are not counted.
+    let notes = nested(alloc, "cnf(c,axiom,p,", "(", 200, "a", ").")?;
+    check(&rt, alloc, notes.as_str(), None)
+}
+
+// A chain of so many files, of which each includes the next.
+fn chain(alloc: Global, count: usize) -> Result<MemoryFiles, Fail> {
+    let names = [
+        "f01", "f02", "f03", "f04", "f05", "f06", "f07", "f08", "f09", "f10", "f11", "f12", "f13",
+        "f14", "f15", "f16", "f17",
+    ];
+    let mut files: Vec<(Text, Vec<u8>)> = Vec::new(alloc);
+    let mut text = String::new(alloc);
+    for name in names.iter().take(count).rev() {
+        files.push((
+            Text::new(Vec::from_slice(alloc, name.as_bytes())?),
+            Vec::from_slice(alloc, text.as_bytes())?,
+        ))?;
+        text = String::from_str(alloc, "include(")?;
+        text.push_str(name)?;
+        text.push_str(").")?;
+    }
+    Ok(MemoryFiles::new(files, Vec::new(alloc))?)
+}
+
+#[test]
+fn files_include_files_sixteen_levels_deep(rt: HostRuntime) -> Result<(), Fail> {
+    let alloc = rt.alloc();
+    let mut fits = chain(alloc, 16)?;
+    assert!(rt; first_fault(alloc, &mut fits, "f01", None)?.is_none());
+    let mut deep = chain(alloc, 17)?;
+    let fault = first_fault(alloc, &mut deep, "f01", None)?;
+    check_met(&rt, fault, ReadKind::IncludeDepth, "f16", 9, "");
+    Ok(())
+}
+
+// A problem `f.p` of this text, with a file `e.p` of so many spaces.
+fn spaces(alloc: Global, text: &str, count: usize) -> Result<MemoryFiles, Fail> {
+    let mut files: Vec<(Text, Vec<u8>)> = Vec::new(alloc);
+    files.push((
+        Text::new(Vec::from_slice(alloc, b"f.p")?),
+        Vec::from_slice(alloc, text.as_bytes())?,
+    ))?;
+    files.push((
+        Text::new(Vec::from_slice(alloc, b"e.p")?),
+        vec![in alloc; b' '; count]?,
+    ))?;
+    Ok(MemoryFiles::new(files, Vec::new(alloc))?)
+}
+
+#[test]
+fn files_have_so_many_bytes_together(rt: HostRuntime) -> Result<(), Fail> {
+    let alloc = rt.alloc();
+    // The text of the problem file has 15 bytes.
+    let text = "include('e.p').";
+    let mut alone = spaces(alloc, text, MOST_BYTES)?;
+    assert!(rt; first_fault(alloc, &mut alone, "e.p", None)?.is_none());
+    let mut large = spaces(alloc, text, MOST_BYTES + 1)?;
+    let fault = first_fault(alloc, &mut large, "e.p", None)?;
+    check_met(&rt, fault, ReadKind::TooLong, "e.p", 1, "");
+    let mut together = spaces(alloc, text, MOST_BYTES - 15)?;
+    assert!(rt; first_fault(alloc, &mut together, "f.p", None)?.is_none());
+    let mut more = spaces(alloc, text, MOST_BYTES - 14)?;
+    let fault = first_fault(alloc, &mut more, "f.p", None)?;
+    check_met(&rt, fault, ReadKind::TooLong, "f.p", 9, "");
+    Ok(())
+}
+
+#[test]
+fn reads_fail_and_files_are_absent(rt: HostRuntime) -> Result<(), Fail> {
+    let alloc = rt.alloc();
+    let listed = [
+        ("a/f.p", "include('x.p')."),
+        ("a/x.p", ""),
+        ("r/x.p", ""),
+        ("a/g.p", "include('y\\'.p')."),
+        ("a/h.p", "include('z.p')."),
+        ("r/z.p", ""),
+        ("a/s.p", "include('/x.p')."),
+        ("a/t.p", "include('l.p',[a])."),
+        ("a/l.p", "cnf(a,axiom,p). cnf(b,question,p)."),
+    ];
+    for (failing, name, kind, file, column, subject) in [
+        (1, "a/f.p", ReadKind::Files, "a/f.p", 1, ""),
+        // The root is tried after an absence alone.
+        (2, "a/f.p", ReadKind::Files, "a/f.p", 9, ""),
+        (3, "a/h.p", ReadKind::Files, "a/h.p", 9, ""),
+        (9, "a/none.p", ReadKind::ProblemAbsent, "a/none.p", 1, ""),
+        (9, "a/g.p", ReadKind::IncludeAbsent, "a/g.p", 9, "y'.p"),
+        (9, "a/s.p", ReadKind::IncludeAbsent, "a/s.p", 9, "/x.p"),
+        // The rules hold of a clause that is not kept, too.
+        (9, "a/t.p", ReadKind::Role, "a/l.p", 23, ""),
+    ] {
+        let mut files = memory(alloc, &listed, &[failing])?;
+        let fault = first_fault(alloc, &mut files, name, Some("r"))?;
+        check_met(&rt, fault, kind, file, column, subject);
+    }
+    Ok(())
+}
+
+// The name of the second file that is read.
+fn second_file(alloc: Global, name: &str, root: Option<&str>) -> Result<Option<String>, Fail> {
+    let listed = [
+        ("a/f.p", "include('x.p')."),
+        ("a/x.p", ""),
+        ("r/x.p", ""),
+        ("a/h.p", "include('z.p')."),
+        ("r/z.p", ""),
+        ("s/h.p", "include('/t/x.p')."),
+        ("/t/x.p", ""),
+    ];
+    let mut files = memory(alloc, &listed, &[])?;
+    match read_problem(alloc, &mut files, name, root) {
+        Ok(input) => match input.files.as_slice().get(1) {
+            None => Ok(None),
+            Some(text) => match std::str::from_utf8(text.as_slice()) {
+                Ok(text) => Ok(Some(String::from_str(alloc, text)?)),
+                Err(_) => Ok(None),
+            },
+        },
+        Err(_) => Ok(None),
+    }
+}
+
+#[test]
+fn includes_are_tried_in_order(rt: HostRuntime) -> Result<(), Fail> {
+    let alloc = rt.alloc();
+    for (name, root, wanted) in [
+        ("a/f.p", None, "a/x.p"),
+        ("a/f.p", Some("r"), "a/x.p"),
+        ("a/h.p", Some("r"), "r/z.p"),
+        ("a/h.p", Some("r/"), "r/z.p"),
+        ("s/h.p", Some("r"), "/t/x.p"),
+    ] {
+        match second_file(alloc, name, root)? {
+            None => {
+                assert!(rt; false, "{name}");
+            }
+            Some(found) => {
+                assert!(rt; found.as_str() == wanted, "{name}");
+            }
+        }
+    }
+    Ok(())
 }
 
 #[test]
@@ -136,6 +512,7 @@ fn selections_and_roots(rt: HostRuntime) -> Result<(), Fail> {
                 "cnf(one,axiom,p).\ncnf(two,axiom,~'p').\n",
             ),
         ],
+        &[],
     )?;
     match read_problem(alloc, &mut files, "dir/m.p", Some("lib")) {
         Ok(input) => {
@@ -165,6 +542,7 @@ fn lines_with_conclusions_and_includes(rt: HostRuntime) -> Result<(), Fail> {
                 "cnf(agatha,axiom,lives(agatha)).\ncnf(charles,axiom,lives(charles)).\ncnf(butler,axiom,lives(butler)).\n",
             ),
         ],
+        &[],
     )?;
     match read_problem(alloc, &mut files, "m.p", None) {
         Ok(input) => {
