@@ -1,3 +1,4 @@
 pub mod Held
 pub mod Rightly
+pub mod Sampled
 pub mod SignsOf

@@ -1,4 +1,5 @@
 pub mod Branches
 pub mod Laws
+pub mod Samples
 pub mod Signs
 pub mod Steps

@@ -11,3 +11,6 @@ pub use branch::Branch;
 pub use laws::{branches_grow_by_pushes, found_is_unique};
 pub use mark::Mark;
 pub use step::{Found, Step, look, make_step};
+
+#[cfg(test)]
+mod tests;
