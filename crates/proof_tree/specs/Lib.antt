@@ -1,4 +1,3 @@
 pub mod DocFaults
 pub mod DocText
 pub mod Lines
-pub mod Samples

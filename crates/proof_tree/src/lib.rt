@@ -10,6 +10,3 @@ mod writing;
 pub use laws::{documents_are_spelled_apart, one_document_fault};
 pub use reading::read_doc;
 pub use writing::write_doc;
-
-#[cfg(test)]
-mod tests;

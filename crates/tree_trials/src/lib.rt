@@ -1,0 +1,5 @@
+//! Trials of documents and of their texts, over problems that are read.
+#![tactic(auto)]
+
+#[cfg(test)]
+mod doc_texts;
