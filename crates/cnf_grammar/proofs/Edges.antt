@@ -166,7 +166,7 @@ module _ (from : Position) (s : Shape) (q : Position) where
   source_edge false is l d opens other e = any_edge Source l d [] opens (λ h. other h is) e
 
 -- where a token leads, it leads by an edge
-edge_at : (state : State) (l d : ℕ) (bs : List Bracket) (s : Shape) (q : Position) → step_at state (position state l d bs) s ≡ Some q → Edge (position state l d bs) s q
+pub edge_at : (state : State) (l d : ℕ) (bs : List Bracket) (s : Shape) (q : Position) → step_at state (position state l d bs) s ≡ Some q → Edge (position state l d bs) s q
 edge_at Statement l d bs s q e =
     let p = position Statement l d bs in
     either p s q (is_keyword (codes "cnf") s) (position ClauseWord l d bs) _ (by_keyword p (position ClauseWord l d bs) (codes "cnf") (clause_begins l d bs) s)

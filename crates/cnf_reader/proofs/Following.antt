@@ -18,10 +18,9 @@ use Rattle.cnf_reader.specs.declared.pending.Pending.{Pending}
 use Rattle.cnf_reader.specs.Faults.{name_of}
 use Rattle.cnf_reader.specs.Statements.{file_text, add_name}
 use Rattle.cnf_reader.specs.Meanings.{name_seen, names_seen}
+use Rattle.cnf_grammar.proofs.Edges.{Edge, clause_begins, edge_at}
 use Rattle.cnf_reader.proofs.InItems.{InItem, conclusions}
-
-abbrev pub position : State → ℕ → ℕ → List Bracket → Position
-position state level depth brackets = record { state = state; level = level; depth = depth; brackets = brackets }
+pub use Rattle.cnf_grammar.proofs.Accepting.{position}
 
 -- where the opening bracket of a list of names must come
 abbrev pub is_selection_start : State → Bool
@@ -49,72 +48,12 @@ forbidden SelectedRead m = is_selection_start m || not (is_late m)
 forbidden SelectionClosed m = is_selection_start m || not (is_late m)
 forbidden _ m = is_late m
 
-abbrev Avoids : (State → Bool) → Option Position → Type 0
-Avoids T None = Unit {0}
-Avoids T (Some p) = T p.state ≡ false
-
-avoid : (T : State → Bool) (test : Bool) (p : Position) (o : Option Position) → T p.state ≡ false → Avoids T o → Avoids T (or_else test p o)
-avoid T true p o h k = h
-avoid T false p o h k = k
-
-avoid_or_none : (T : State → Bool) (test : Bool) (o : Option Position) → Avoids T o → Avoids T (cond test None o)
-avoid_or_none T true o h = tt
-avoid_or_none T false o h = h
-
-avoid_any : (p : Position) (s : Shape) → is_late p.state ≡ false → Avoids is_late (any_token p s)
-avoid_any p s h = avoid is_late (is_mark left_round s) _ _ h (avoid is_late (is_mark left_square s) _ _ h (avoid is_late (not (is_bracket s)) p None h tt))
-
-avoid_within : (bracket : Bracket) (outer : List Bracket) (p : Position) (s : Shape) → is_late p.state ≡ false → Avoids is_late (within bracket outer p s)
-avoid_within bracket outer p s h = avoid is_late (is_mark (closing bracket) s) _ _ h (avoid_any p s h)
-
-avoid_atom : (p : Position) (s : Shape) → Avoids is_late (atom_start p s)
-avoid_atom p s = avoid is_late (is_word s) _ _ refl (avoid is_late (is_defined (codes "$true") s || is_defined (codes "$false") s) _ None refl tt)
-
-avoid_literal : (p : Position) (s : Shape) → Avoids is_late (literal_start p s)
-avoid_literal p s = avoid is_late (is_mark tilde s) _ _ refl (avoid_atom p s)
-
-avoid_formula : (level : ℕ) (p : Position) (s : Shape) → Avoids is_late (after_formula level p s)
-avoid_formula zero p s = avoid is_late (is_mark comma s) _ _ refl (avoid is_late (is_mark right_round s) _ None refl tt)
-avoid_formula (suc level) p s = avoid is_late (is_mark right_round s) _ None refl tt
-
-avoid_term : (depth : ℕ) (p : Position) (s : Shape) → Avoids is_late (after_term depth p s)
-avoid_term zero p s = avoid is_late (is_mark bar s) _ _ refl (avoid_formula p.level (to FormulaClosed p) s)
-avoid_term (suc depth) p s = avoid is_late (is_mark comma s) _ _ refl (avoid is_late (is_mark right_round s) _ None refl tt)
-
-avoids : (state : State) (level depth : ℕ) (brackets : List Bracket) (s : Shape) → Avoids (forbidden state) (step_at state (position state level depth brackets) s)
-avoids Statement level depth brackets s = avoid is_late (is_keyword (codes "cnf") s) _ _ refl (avoid is_late (is_keyword (codes "include") s) _ None refl tt)
-avoids ClauseWord level depth brackets s = avoid is_late (is_mark left_round s) _ None refl tt
-avoids NameStart level depth brackets s = avoid is_late (is_name s) _ None refl tt
-avoids NameRead level depth brackets s = avoid is_late (is_mark comma s) _ None refl tt
-avoids RoleStart level depth brackets s = avoid is_late (is_lower s) _ None refl tt
-avoids RoleRead level depth brackets s = avoid is_late (is_mark comma s) _ None refl tt
-avoids FormulaStart level depth brackets s = avoid is_late (is_mark left_round s) _ _ refl (avoid_literal (position FormulaStart level depth brackets) s)
-avoids LiteralStart level depth brackets s = avoid_literal (position LiteralStart level depth brackets) s
-avoids AtomStart level depth brackets s = avoid_atom (position AtomStart level depth brackets) s
-avoids WordRead level depth brackets s = avoid is_late (is_mark left_round s) _ _ refl (avoid_term depth (position TermRead level depth brackets) s)
-avoids TermStart level depth brackets s = avoid is_late (is_simple_term s) _ _ refl (avoid is_late (is_word s) _ None refl tt)
-avoids TermRead level depth brackets s = avoid_term depth (position TermRead level depth brackets) s
-avoids FormulaClosed level depth brackets s = avoid_formula level (position FormulaClosed level depth brackets) s
-avoids SourceStart level depth brackets s = avoid_or_none is_late (is_mark comma s) _ (avoid_any (position Source level depth []) s refl)
-avoids Source level depth [] s = avoid is_late (is_mark comma s) _ _ refl (avoid is_late (is_mark right_round s) _ _ refl (avoid_any (position Source level depth []) s refl))
-avoids Source level depth (bracket ∷ outer) s = avoid_within bracket outer (position Source level depth (bracket ∷ outer)) s refl
-avoids InfoStart level depth brackets s = avoid is_late (is_mark left_square s) _ None refl tt
-avoids Info level depth [] s = avoid is_late (is_mark right_square s) _ _ refl (avoid_any (position Info level depth []) s refl)
-avoids Info level depth (bracket ∷ outer) s = avoid_within bracket outer (position Info level depth (bracket ∷ outer)) s refl
-avoids InfoClosed level depth brackets s = avoid is_late (is_mark right_round s) _ None refl tt
-avoids ClauseClosed level depth brackets s = avoid is_late (is_mark dot s) _ None refl tt
-avoids IncludeWord level depth brackets s = avoid is_late (is_mark left_round s) _ None refl tt
-avoids FileStart level depth brackets s = avoid is_late (is_file_name s) _ None refl tt
-avoids FileRead level depth brackets s = avoid (forbidden FileRead) (is_mark comma s) _ _ refl (avoid (forbidden FileRead) (is_mark right_round s) _ None refl tt)
-avoids SelectionStart level depth brackets s = avoid (forbidden SelectionStart) (is_mark left_square s) _ None refl tt
-avoids SelectionOpen level depth brackets s = avoid (forbidden SelectionOpen) (is_name s) _ _ refl (avoid (forbidden SelectionOpen) (is_mark right_square s) _ None refl tt)
-avoids SelectedStart level depth brackets s = avoid (forbidden SelectedStart) (is_name s) _ None refl tt
-avoids SelectedRead level depth brackets s = avoid (forbidden SelectedRead) (is_mark comma s) _ _ refl (avoid (forbidden SelectedRead) (is_mark right_square s) _ None refl tt)
-avoids SelectionClosed level depth brackets s = avoid (forbidden SelectionClosed) (is_mark right_round s) _ None refl tt
-avoids IncludeClosed level depth brackets s = avoid (forbidden IncludeClosed) (is_mark dot s) _ None refl tt
+avoided : (p : Position) (s : Shape) (q : Position) → Edge p s q → forbidden p.state q.state ≡ false
+avoided _ _ _ (clause_begins l d bs) = refl
+avoided _ _ _ _ = refl
 
 pub goes_there : (state : State) (level depth : ℕ) (brackets : List Bracket) (s : Shape) (next : Position) → step_at state (position state level depth brackets) s ≡ Some next → forbidden state next.state ≡ false
-goes_there state level depth brackets s next goes = subst (Avoids (forbidden state)) goes (avoids state level depth brackets s)
+goes_there state level depth brackets s next goes = avoided (position state level depth brackets) s next (edge_at state level depth brackets s next goes)
 
 pub true_false : (b : Bool) → b ≡ true → b ≡ false → ⊥
 true_false b h k = cc

@@ -16,8 +16,8 @@ use Rattle.cnf_reader.specs.Faults.{name_of}
 use Rattle.cnf_reader.specs.Files.{BeginAt, NameFileAt}
 use Rattle.cnf_reader.specs.Meanings.{Written, ends_statement}
 use Rattle.cnf_reader.specs.Statements.{fresh, take, add_at, add_name, take_info, take_item, is_outside_items, with_name}
-use Rattle.cnf_reader.proofs.Following.{position}
-use Rattle.cnf_reader.proofs.Limiting.{Leads}
+use Rattle.cnf_grammar.proofs.Edges as edges
+use Rattle.cnf_grammar.proofs.Edges.{Edge, edge}
 use Rattle.cnf_reader.proofs.Taking.{was_taken}
 
 -- one token
@@ -87,94 +87,44 @@ info_leaves : (is_outside : Bool) (p : Pending) (s : Shape) → ((take_info is_o
 info_leaves true p s = (refl, refl)
 info_leaves false p s = item_leaves p (item_step p.words p.item s)
 
--- of the places to which a token may lead, that of the first test that holds, or what follows
-led : (P : Position → Type 0) (test : Bool) (next : Position) (other : Option Position) → P next → Leads P other → Leads P (or_else test next other)
-led P true next other h k = h
-led P false next other h k = k
-
-module _ (tokens : List Written) (line column : ℕ) where
-  abbrev At : Position → Type 0
-  At q = Lie q.state tokens line column
-
-  -- a token of a clause leads to another mode of a clause
-  any_on : (q : Position) (s : Shape) → At q → Leads At (any_token q s)
-  any_on q s h = led At (is_mark left_round s) _ _ h (led At (is_mark left_square s) _ _ h (led At (not (is_bracket s)) q None h tt))
-
-  within_on : (bracket : Bracket) (outer : List Bracket) (q : Position) (s : Shape) → At q → Leads At (within bracket outer q s)
-  within_on bracket outer q s h = led At (is_mark (closing bracket) s) _ _ h (any_on q s h)
-
-  atom_on : (q : Position) (s : Shape) → Leads At (atom_start q s)
-  atom_on q s = led At (is_word s) _ _ tt (led At (is_defined (codes "$true") s || is_defined (codes "$false") s) _ None tt tt)
-
-  literal_on : (q : Position) (s : Shape) → Leads At (literal_start q s)
-  literal_on q s = led At (is_mark tilde s) _ _ tt (atom_on q s)
-
-  formula_on : (level : ℕ) (q : Position) (s : Shape) → Leads At (after_formula level q s)
-  formula_on zero q s = led At (is_mark comma s) _ _ tt (led At (is_mark right_round s) _ None tt tt)
-  formula_on (suc level) q s = led At (is_mark right_round s) _ None tt tt
-
-  term_on : (depth : ℕ) (q : Position) (s : Shape) → Leads At (after_term depth q s)
-  term_on zero q s = led At (is_mark bar s) _ _ tt (formula_on q.level (to FormulaClosed q) s)
-  term_on (suc depth) q s = led At (is_mark comma s) _ _ tt (led At (is_mark right_round s) _ None tt tt)
-
-  source_on : (test : Bool) (q : Position) (s : Shape) → At q → Leads At (cond test None (any_token q s))
-  source_on true q s h = tt
-  source_on false q s h = any_on q s h
-
-module _ (p : Pending) (t : Written) (tokens : List Written) (is_outside : Bool) (level depth : ℕ) where
-  abbrev Added : State → Pending
-  Added state = add_at state depth is_outside p t.shape t.line t.column
-
-  abbrev Goes : State → Position → Type 0
-  Goes state next = Lie next.state (tokens ++ t ∷ []) (Added state).asked.line (Added state).asked.column
+module _ (p : Pending) (t : Written) (tokens : List Written) (is_outside : Bool) where
+  abbrev Added : State → ℕ → Shape → Pending
+  Added state depth s = add_at state depth is_outside p s t.line t.column
 
   longer : NameFileAt tokens p.asked.line p.asked.column → NameFileAt (tokens ++ t ∷ []) p.asked.line p.asked.column
   longer h = name_longer tokens t p.asked.line p.asked.column h
 
-  listed : NameFileAt tokens p.asked.line p.asked.column → NameFileAt (tokens ++ t ∷ []) (with_name p.asked t.shape).line (with_name p.asked t.shape).column
-  listed h =
-      let same = name_leaves p.asked t.shape (is_name t.shape) in
-      subst (λ l. NameFileAt (tokens ++ t ∷ []) l (with_name p.asked t.shape).column) (sym same.0) (subst (λ c. NameFileAt (tokens ++ t ∷ []) p.asked.line c) (sym same.1) (longer h))
+  listed : (s : Shape) → NameFileAt tokens p.asked.line p.asked.column → NameFileAt (tokens ++ t ∷ []) (with_name p.asked s).line (with_name p.asked s).column
+  listed s h =
+      let same = name_leaves p.asked s (is_name s) in
+      subst (λ l. NameFileAt (tokens ++ t ∷ []) l (with_name p.asked s).column) (sym same.0) (subst (λ c. NameFileAt (tokens ++ t ∷ []) p.asked.line c) (sym same.1) (longer h))
 
   -- one more token
-  lies_on : (state : State) (brackets : List Bracket) → ends_statement state ≡ false → Lie state tokens p.asked.line p.asked.column → Leads (Goes state) (step_at state (position state level depth brackets) t.shape)
-  lies_on Statement brackets goes h = led (Goes Statement) (is_keyword (codes "cnf") t.shape) _ _ tt (led (Goes Statement) (is_keyword (codes "include") t.shape) _ None (first_one tokens t h) tt)
-  lies_on ClauseWord brackets goes h = led (Goes ClauseWord) (is_mark left_round t.shape) _ None tt tt
-  lies_on NameStart brackets goes h = led (Goes NameStart) (is_name t.shape) _ None tt tt
-  lies_on NameRead brackets goes h = led (Goes NameRead) (is_mark comma t.shape) _ None tt tt
-  lies_on RoleStart brackets goes h = led (Goes RoleStart) (is_lower t.shape) _ None tt tt
-  lies_on RoleRead brackets goes h = led (Goes RoleRead) (is_mark comma t.shape) _ None tt tt
-  lies_on FormulaStart brackets goes h = led (Goes FormulaStart) (is_mark left_round t.shape) _ _ tt (literal_on _ _ _ (position FormulaStart level depth brackets) t.shape)
-  lies_on LiteralStart brackets goes h = literal_on _ _ _ (position LiteralStart level depth brackets) t.shape
-  lies_on AtomStart brackets goes h = atom_on _ _ _ (position AtomStart level depth brackets) t.shape
-  lies_on WordRead brackets goes h = led (Goes WordRead) (is_mark left_round t.shape) _ _ tt (term_on _ _ _ depth (position TermRead level depth brackets) t.shape)
-  lies_on TermStart brackets goes h = led (Goes TermStart) (is_simple_term t.shape) _ _ tt (led (Goes TermStart) (is_word t.shape) _ None tt tt)
-  lies_on TermRead brackets goes h = term_on _ _ _ depth (position TermRead level depth brackets) t.shape
-  lies_on FormulaClosed brackets goes h = formula_on _ _ _ level (position FormulaClosed level depth brackets) t.shape
-  lies_on SourceStart brackets goes h = source_on _ _ _ (is_mark comma t.shape) (position Source level depth []) t.shape tt
-  lies_on Source [] goes h = led (Goes Source) (is_mark comma t.shape) _ _ tt (led (Goes Source) (is_mark right_round t.shape) _ _ tt (any_on _ _ _ (position Source level depth []) t.shape tt))
-  lies_on Source (bracket ∷ outer) goes h = within_on _ _ _ bracket outer (position Source level depth (bracket ∷ outer)) t.shape tt
-  lies_on InfoStart brackets goes h = led (Goes InfoStart) (is_mark left_square t.shape) _ None tt tt
-  lies_on Info [] goes h = led (Goes Info) (is_mark right_square t.shape) _ _ tt (any_on _ _ _ (position Info level depth []) t.shape tt)
-  lies_on Info (bracket ∷ outer) goes h = within_on _ _ _ bracket outer (position Info level depth (bracket ∷ outer)) t.shape tt
-  lies_on InfoClosed brackets goes h = led (Goes InfoClosed) (is_mark right_round t.shape) _ None tt tt
-  lies_on ClauseClosed brackets goes h = absurd cc
-  lies_on IncludeWord brackets goes h = led (Goes IncludeWord) (is_mark left_round t.shape) _ None (then_two tokens t h) tt
-  lies_on FileStart brackets goes h = led (Goes FileStart) (is_file_name t.shape) _ None (third_named tokens t h) tt
-  lies_on FileRead brackets goes h = led (Goes FileRead) (is_mark comma t.shape) _ _ (longer h) (led (Goes FileRead) (is_mark right_round t.shape) _ None (longer h) tt)
-  lies_on SelectionStart brackets goes h = led (Goes SelectionStart) (is_mark left_square t.shape) _ None (longer h) tt
-  lies_on SelectionOpen brackets goes h = led (Goes SelectionOpen) (is_name t.shape) _ _ (listed h) (led (Goes SelectionOpen) (is_mark right_square t.shape) _ None (listed h) tt)
-  lies_on SelectedStart brackets goes h = led (Goes SelectedStart) (is_name t.shape) _ None (listed h) tt
-  lies_on SelectedRead brackets goes h = led (Goes SelectedRead) (is_mark comma t.shape) _ _ (longer h) (led (Goes SelectedRead) (is_mark right_square t.shape) _ None (longer h) tt)
-  lies_on SelectionClosed brackets goes h = led (Goes SelectionClosed) (is_mark right_round t.shape) _ None (longer h) tt
-  lies_on IncludeClosed brackets goes h = absurd cc
+  lies_on : (from : Position) (s : Shape) (next : Position) → Edge from s next → ends_statement from.state ≡ false → Lie from.state tokens p.asked.line p.asked.column
+      → Lie next.state (tokens ++ t ∷ []) (Added from.state from.depth s).asked.line (Added from.state from.depth s).asked.column
+  lies_on _ _ _ (edges.include_begins l d bs) goes h = first_one tokens t h
+  lies_on _ _ _ (edges.include_opens l d bs) goes h = then_two tokens t h
+  lies_on _ _ _ (edges.file_bare l d bs text) goes h = third_named tokens t h
+  lies_on _ _ _ (edges.file_quoted l d bs text full) goes h = third_named tokens t h
+  lies_on _ _ _ (edges.file_selects l d bs) goes h = longer h
+  lies_on _ _ _ (edges.file_ends l d bs) goes h = longer h
+  lies_on _ _ _ (edges.selection_opens l d bs) goes h = longer h
+  lies_on _ _ _ (edges.first_selected l d bs s name) goes h = listed s h
+  lies_on _ _ _ (edges.none_selected l d bs) goes h = longer h
+  lies_on _ _ _ (edges.next_selected l d bs s name) goes h = listed s h
+  lies_on _ _ _ (edges.selected_comma l d bs) goes h = longer h
+  lies_on _ _ _ (edges.selection_ends l d bs) goes h = longer h
+  lies_on _ _ _ (edges.selection_behind l d bs) goes h = longer h
+  lies_on _ _ _ (edges.clause_ends l d bs) goes h = absurd cc
+  lies_on _ _ _ (edges.include_ends l d bs) goes h = absurd cc
+  lies_on _ _ _ _ goes h = tt
 
-  begins_on : (state : State) → (state ≡ Statement → tokens ≡ []) → ((state ≡ Statement → ⊥) → BeginAt tokens p.line p.column) → BeginAt (tokens ++ t ∷ []) (Added state).line (Added state).column
-  begins_on Statement none h = subst (λ u. BeginAt (u ++ t ∷ []) t.line t.column) (sym (none refl)) (refl, refl)
-  begins_on Info none h =
+  begins_on : (state : State) (depth : ℕ) → (state ≡ Statement → tokens ≡ []) → ((state ≡ Statement → ⊥) → BeginAt tokens p.line p.column) → BeginAt (tokens ++ t ∷ []) (add_at state depth is_outside p t.shape t.line t.column).line (add_at state depth is_outside p t.shape t.line t.column).column
+  begins_on Statement depth none h = subst (λ u. BeginAt (u ++ t ∷ []) t.line t.column) (sym (none refl)) (refl, refl)
+  begins_on Info depth none h =
       let same = info_leaves is_outside p t.shape in
       subst (λ l. BeginAt (tokens ++ t ∷ []) l (take_info is_outside p t.shape).column) (sym same.0) (subst (λ c. BeginAt (tokens ++ t ∷ []) p.line c) (sym same.1) (begin_longer tokens t p.line p.column (h (λ e. cc))))
-  begins_on state none h = begin_longer tokens t p.line p.column (h (λ e. cc))
+  begins_on state depth none h = begin_longer tokens t p.line p.column (h (λ e. cc))
 
 -- no token of a statement was taken
 pub fresh_stands : Stands [] fresh
@@ -194,7 +144,7 @@ module _ (is_full : Bool) (selections : List (Option (List Name))) (p : Pending)
   begins_next =
       let k = was_taken is_full selections p t.shape t.line t.column next takes in
       subst (λ (q : Pending). BeginAt (tokens ++ t ∷ []) q.line q.column) k.is
-      (begins_on p t tokens (is_outside_items p.position t.shape) p.position.level p.position.depth p.position.state (λ e. subst (λ m. Lie m tokens p.asked.line p.asked.column) e h.lies) h.begins)
+      (begins_on p t tokens (is_outside_items p.position t.shape) p.position.state p.position.depth (λ e. subst (λ m. Lie m tokens p.asked.line p.asked.column) e h.lies) h.begins)
 
   -- with one more token, which ends no statement, it still does
   pub stands_on : ends_statement p.position.state ≡ false → Stands (tokens ++ t ∷ []) next
@@ -204,7 +154,7 @@ module _ (is_full : Bool) (selections : List (Option (List Name))) (p : Pending)
       record {
         begins = λ apart. begins_next;
         lies = subst (λ (q : Pending). Lie q.position.state (tokens ++ t ∷ []) q.asked.line q.asked.column) k.is
-            (subst (Leads (Goes p t tokens outside p.position.level p.position.depth p.position.state)) k.leads (lies_on p t tokens outside p.position.level p.position.depth p.position.state p.position.brackets goes h.lies));
+            (lies_on p t tokens outside p.position t.shape k.next (edge p.position t.shape k.next k.leads) goes h.lies);
       }
 
   -- behind the dot of an include its file is named where its third token stands
