@@ -35,12 +35,12 @@ levels_more depth deep = omega arith
 levels_none : (depth : ℕ) → 15 ≤ depth → 15 - depth ≡ 0
 levels_none depth deep = omega arith
 
-many_refused : (world : World) (root : Option (List ℕ)) (source : Source) (asked : Asked) (kept : Kept) (levels : ℕ) → nat_le 256 kept.includes ≡ true → include_in world root levels source asked kept ≡ fault_at TooManyIncludes source.name asked.line asked.column
+pub many_refused : (world : World) (root : Option (List ℕ)) (source : Source) (asked : Asked) (kept : Kept) (levels : ℕ) → nat_le 256 kept.includes ≡ true → include_in world root levels source asked kept ≡ fault_at TooManyIncludes source.name asked.line asked.column
 unfolding include_in
 many_refused world root source asked kept zero full = rw full refl
 many_refused world root source asked kept (suc levels) full = rw full refl
 
-deep_refused : (world : World) (root : Option (List ℕ)) (source : Source) (asked : Asked) (kept : Kept) → nat_le 256 kept.includes ≡ false → include_in world root 0 source asked kept ≡ fault_at IncludeDepth source.name asked.line asked.column
+pub deep_refused : (world : World) (root : Option (List ℕ)) (source : Source) (asked : Asked) (kept : Kept) → nat_le 256 kept.includes ≡ false → include_in world root 0 source asked kept ≡ fault_at IncludeDepth source.name asked.line asked.column
 unfolding include_in
 deep_refused world root source asked kept few = rw few refl
 

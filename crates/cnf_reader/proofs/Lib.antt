@@ -36,6 +36,7 @@ pub mod Tallies
 pub mod Telling
 pub mod RowsMet
 pub mod Clearing
+pub mod Folding
 pub mod Tabled
 pub mod Readying
 pub mod Parting
@@ -45,3 +46,4 @@ pub mod Saying
 pub mod Stopping
 pub mod Outcomes
 mod Counted
+pub mod Ordering

@@ -4,6 +4,7 @@ pub mod Statements
 pub mod Keeping
 pub mod Numbers
 pub mod Names
+pub mod Folders
 pub mod Reading
 pub mod Parts
 pub mod Openings

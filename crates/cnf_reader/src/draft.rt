@@ -16,6 +16,9 @@ use std::marker::Model;
 use std::mem;
 use tptp_lexer::TokenKind;
 
+/// The most variables of a clause.
+const MOST_VARIABLES: usize = 32;
+
 /// A symbol as it is written.
 #[derive(Clone, Copy)]
 pub struct RawSymbol<'a> {
@@ -292,7 +295,7 @@ impl RawLiteral<'_> {
 fn lacks_room(variables: &[Text], text: &[u8]) -> bool
     ensures { result ≡ lacks_room variables.now text.now }
 {
-    variables.len() >= 32 && variable_index(variables, text) == variables.len()
+    variables.len() >= MOST_VARIABLES && variable_index(variables, text) == variables.len()
 }
 
 // The number of the variable, or that of all variables where it is new.

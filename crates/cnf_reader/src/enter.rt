@@ -24,6 +24,12 @@ use std::str::from_utf8;
 /// The most bytes of all files of a problem together.
 const MOST_BYTES: u64 = 16_777_216;
 
+/// The most includes of all files of a problem together.
+const MOST_INCLUDES: u32 = 256;
+
+/// The most files that stand open around one that is included.
+const MOST_LEVELS: usize = 15;
+
 /// A fault at this line and column of a file.
 pub fn fault_at(
     alloc: Global,
@@ -104,10 +110,10 @@ pub fn enter<F: Files>(
         (λ fault. IsNotEntered (F.table files.old) (option_map (λ r. r.now) root.entry) kept.old file.now depth asked.now fault) }
     ensures taken { IfOk result (IsTakenIn kept.old kept.new) }
 {
-    if kept.includes >= 256 {
+    if kept.includes >= MOST_INCLUDES {
         return Err(fault_at_include(alloc, ReadKind::TooManyIncludes, file, asked, &[]));
     }
-    if depth >= 15 {
+    if depth >= MOST_LEVELS {
         return Err(fault_at_include(alloc, ReadKind::IncludeDepth, file, asked, &[]));
     }
     let Ok(wanted) = from_utf8(asked.file.as_slice()) else {

@@ -1,11 +1,11 @@
 //! That reading is a function of the files, that a statement, and so a file, is read as what it means, and that the numbers
 //! of symbols stand for those that were read. The functions do nothing: each is called for what it ensures.
 
-ghost use Rattle.std.specs.Prelude.{◌≡◌, ◌≢◌, ◌⊎◌, ◌↔◌, ℕ, Bool, List, ◌++◌, AllPairs, Option, Some, Result, Ok, Err, nat_le};
+ghost use Rattle.std.specs.Prelude.{◌≡◌, ◌≢◌, ◌⊎◌, ◌↔◌, ℕ, ◌<◌, ◌≤◌, Bool, List, [], ◌∷◌, ◌++◌, AllPairs, Option, Some, Result, Ok, Err, nat_le};
 ghost use Rattle.mg_word.specs.declared.clause.Name.{Name};
 ghost use Rattle.cnf_grammar.specs.declared.state.State.{State};
 ghost use Rattle.cnf_grammar.specs.Table.{start};
-ghost use Rattle.cnf_grammar.specs.Meaning.{ClauseLiteral};
+ghost use Rattle.cnf_grammar.specs.Meaning.{Item, ClauseLiteral, signed};
 ghost use Rattle.mg_word.specs.Facts.{InputData};
 ghost use Rattle.mg_word.specs.Table.{Symbol};
 ghost use Rattle.mg_outside.specs.Reading.{Table};
@@ -14,7 +14,10 @@ ghost use Rattle.cnf_reader.specs.declared.fault.ReadKind.{ReadKind};
 ghost use Rattle.cnf_reader.specs.declared.kept.Kept.{Kept};
 ghost use Rattle.cnf_reader.specs.declared.pending.Asked.{Asked};
 ghost use Rattle.cnf_reader.specs.declared.pending.Pending.{Pending};
-ghost use Rattle.cnf_reader.specs.Reading.{Source, Reads, StandsFirst, IsReadSome, read_source};
+ghost use Rattle.cnf_reader.specs.declared.fault.ReadKind.TheVariants.{IncludeDepth, TooManyIncludes};
+ghost use Rattle.cnf_reader.specs.Folders.{IsFolder};
+ghost use Rattle.cnf_reader.specs.Names.{folder_of};
+ghost use Rattle.cnf_reader.specs.Reading.{World, Source, Reads, StandsFirst, IsReadSome, most_bytes, most_levels, fault_at, include_in, read_source};
 ghost use Rattle.cnf_reader.specs.Statements.{fresh, take};
 ghost use Rattle.cnf_reader.specs.Meanings.{Written, shapes_of, TakesFront, TakesStatement, HoldsItsMeaning};
 ghost use Rattle.cnf_reader.specs.Files.{IsReadAsSaid};
@@ -72,9 +75,31 @@ pub fn faults_are_the_rows_of_a_table()
 
 /// Each number in the literals of a clause stands for the symbol that was read there, by name, arity
 /// and kind, whatever symbols come later; signs, constants and variables are the same. The table goes
-/// on as it was, with symbols of the literals alone, and its symbols stay different.
+/// on as it was, with symbols of the literals alone, and its symbols stay different. New symbols come
+/// in the order in which they are read: first those of the first literals, and in a literal those of
+/// its first items.
 pub fn numbers_stand_for_their_symbols()
     ensures meaning { (table more : List Symbol) (literals : List ClauseLiteral) → LiteralsStandFor (with_literals table literals ++ more) (numbered_literals table literals) literals }
     ensures grown { (table : List Symbol) (literals : List ClauseLiteral) → GoesOnBy literals table (with_literals table literals) }
     ensures different { (table : List Symbol) (literals : List ClauseLiteral) → AllPairs (λ a b. a ≢ b) table → AllPairs (λ a b. a ≢ b) (with_literals table literals) }
+    ensures literals_in_order { (table : List Symbol) (literals more : List ClauseLiteral) → (rest : List Symbol) × (with_literals table (literals ++ more) ≡ with_literals table literals ++ rest) }
+    ensures items_in_order { (table : List Symbol) (literals : List ClauseLiteral) (negative : Bool) (atom more : List Item) → (rest : List Symbol) × (with_literals table (literals ++ signed negative (atom ++ more) ∷ []) ≡ with_literals table (literals ++ signed negative atom ∷ []) ++ rest) }
+{}
+
+/// The folder beside which an included file is tried first is the part of the including file's name
+/// before its last part, in which no slash is; a name has one folder.
+pub fn folders_end_with_the_last_slash()
+    ensures is { (name : List ℕ) → IsFolder name (folder_of name) }
+    ensures only { (name folder other : List ℕ) → IsFolder name folder → IsFolder name other → folder ≡ other }
+{}
+
+/// The limits on the files of a problem, and what stands at an include that passes one, whatever the
+/// files hold: the 257th include, and one in a file that leaves no level.
+pub fn includes_go_by_their_limits()
+    ensures levels { most_levels ≡ 15 }
+    ensures bytes { most_bytes ≡ 16777216 }
+    ensures many { (world : World) (root : Option (List ℕ)) (levels : ℕ) (source : Source) (asked : Asked) (kept : Kept) → 256 ≤ kept.includes
+        → include_in world root levels source asked kept ≡ fault_at TooManyIncludes source.name asked.line asked.column }
+    ensures deep { (world : World) (root : Option (List ℕ)) (source : Source) (asked : Asked) (kept : Kept) → kept.includes < 256
+        → include_in world root 0 source asked kept ≡ fault_at IncludeDepth source.name asked.line asked.column }
 {}

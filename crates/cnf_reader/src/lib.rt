@@ -24,6 +24,6 @@ pub use fault::{ReadFault, ReadKind};
 pub use laws::{
     each_file_is_read_as_its_statements, each_statement_holds_its_meaning,
     faults_are_the_rows_of_a_table, faults_stand_where_the_grammar_stops, files_read_as_one_thing,
-    numbers_stand_for_their_symbols,
+    folders_end_with_the_last_slash, includes_go_by_their_limits, numbers_stand_for_their_symbols,
 };
 pub use reading::read_problem;

@@ -20,6 +20,9 @@ use mg_word::NoMemory;
 use std::alloc::Global;
 use tptp_lexer::{Cursor, next_token};
 
+/// The most clauses of a problem.
+const MOST_CLAUSES: usize = 20_000;
+
 /// What stands in a file behind the statements that were read.
 #[derive(Drop)]
 pub enum Part {
@@ -67,7 +70,7 @@ pub fn read_part(
     ensures paid { IfOk result (λ part. IsPaid part kept.old (count_left bytes.now cursor.old) kept.new (count_left bytes.now cursor.new)) }
     ensures part { IfOk result (λ part. IsPart number bytes.now selections.now kept.old (left_of bytes.now cursor.old) part kept.new (left_of bytes.now cursor.new)) }
 {
-    let is_full = kept.clauses.as_slice().len() >= 20000;
+    let is_full = kept.clauses.as_slice().len() >= MOST_CLAUSES;
     let mut pending = Pending::fresh(alloc);
     loop {
         let found = match next_token(bytes, cursor) {

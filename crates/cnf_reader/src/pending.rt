@@ -18,6 +18,12 @@ use std::alloc::Global;
 use std::mem;
 use tptp_lexer::TokenKind;
 
+/// The most literals of a clause.
+const MOST_LITERALS: usize = 64;
+
+/// The most round brackets that may stand open in a formula.
+const MOST_BRACKETS: u32 = 100;
+
 /// What was read of a statement.
 #[derive(Drop)]
 pub struct Pending<'a> {
@@ -107,7 +113,7 @@ impl<'a> Pending<'a> {
         if !self.position.advance(token.kind, token.text, token.plain)? {
             return Ok(Some(refusal(state, token)));
         }
-        if self.position.level + self.position.depth > 100 {
+        if self.position.level + self.position.depth > MOST_BRACKETS {
             return Ok(Some(ReadKind::TooDeep));
         }
         if let Some(kind) = self.limit_fault(alloc, is_full, selections, state, token)? {
@@ -160,7 +166,7 @@ impl<'a> Pending<'a> {
             State::NameStart => name_fault(alloc, is_full, selections, token),
             State::RoleStart => Ok(role_fault(token)),
             State::LiteralStart => {
-                if self.draft.count() >= 64 {
+                if self.draft.count() >= MOST_LITERALS {
                     return Ok(Some(ReadKind::TooManyLiterals));
                 }
                 Ok(None)
