@@ -7,6 +7,7 @@ mod laws;
 mod line;
 mod problem;
 mod renumbering;
+mod satisfying;
 mod sides;
 mod variables;
 
@@ -14,6 +15,7 @@ pub use fault::FormFault;
 pub use laws::{one_fault, one_problem};
 pub use line::form_text;
 pub use problem::forms_of;
+pub use satisfying::satisfies;
 pub use variables::free_variable;
 
 #[cfg(test)]
