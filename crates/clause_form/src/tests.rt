@@ -3,10 +3,10 @@
 ghost use Rattle.std.specs.Prelude.{◌≡◌, ◌∷◌, [], IfOk};
 ghost use Rattle.clause_form.specs.Samples.{one_symbol, one_literal};
 
-use crate::{FormFault, form_text, forms_of, free_variable};
+use crate::{FormFault, form_text, forms_of, free_variable, satisfies};
 use mg_word::{
-    Clause, ClauseLit, Form, Input, Item, Items, Kind, Name, NoMemory, PatLit, Pattern, Place,
-    Symbols, Text,
+    Clause, ClauseLit, Form, Input, Item, Items, Kind, LitSet, Name, NoMemory, PatLit, Pattern,
+    Place, Symbols, Text,
 };
 use std::alloc::Global;
 use std::test::Fail;
@@ -119,6 +119,7 @@ fn one_negative_literal_makes_a_form(rt: HostRuntime) -> Result<(), Fail> {
     assert_eq!(rt; problem.forms.as_slice().len(), 1);
     let line = form_text(alloc, &problem, 1)?;
     assert!(rt; line.as_slice() == b"form 1 c: p(X1) ->".as_slice());
+    assert!(rt; satisfies(alloc, &problem, &LitSet::empty(alloc))?);
     Ok(())
 }
 
