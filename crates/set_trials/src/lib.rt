@@ -1,0 +1,5 @@
+//! Trials of sets of literals, over problems that are read.
+#![tactic(auto)]
+
+#[cfg(test)]
+mod sets;
