@@ -11,3 +11,8 @@ pub mod OneFront
 pub mod OneDocFault
 pub mod Written
 pub mod DocsApart
+pub mod DocLeads
+pub mod LinesApart
+pub mod RawLines
+pub mod FineLines
+pub mod DocOrFault

@@ -22,7 +22,7 @@ use Rattle.ascii_text.proofs.Digits.{decimal_digits}
 use Rattle.term_text.proofs.LookUps.{name_bytes}
 use Rattle.term_text.proofs.SymbolWords.{passes_at}
 
-no_feed_append : (a b : List ℕ) → has_no_feed a ≡ true → has_no_feed b ≡ true → has_no_feed (a ++ b) ≡ true
+pub no_feed_append : (a b : List ℕ) → has_no_feed a ≡ true → has_no_feed b ≡ true → has_no_feed (a ++ b) ≡ true
 no_feed_append [] b first second = second
 no_feed_append (x ∷ a) b first second =
     let parts = both_true (is_in_line x) (has_no_feed a) first in
@@ -31,7 +31,7 @@ no_feed_append (x ∷ a) b first second =
 name_no_feed : (byte : ℕ) → is_name_byte byte ≡ true → is_in_line byte ≡ true
 name_no_feed byte name = grind (arith, nat_tests)
 
-digit_no_feed : (byte : ℕ) → is_digit byte ≡ true → is_in_line byte ≡ true
+pub digit_no_feed : (byte : ℕ) → is_digit byte ≡ true → is_in_line byte ≡ true
 digit_no_feed byte digit = grind (arith, nat_tests)
 
 -- a text with a line feed has one
@@ -72,14 +72,14 @@ behind_no_feed : (arity : ℕ) (brackets : List ℕ) → has_no_feed (behind ari
 behind_no_feed zero brackets = closing_no_feed brackets
 behind_no_feed (suc more) brackets = refl
 
-within_no_feed : (brackets : List ℕ) (symbols : List Symbol) → list_all is_symbol symbols ≡ true → has_no_feed (spelled_within brackets (map symbol_piece symbols)) ≡ true
+pub within_no_feed : (brackets : List ℕ) (symbols : List Symbol) → list_all is_symbol symbols ≡ true → has_no_feed (spelled_within brackets (map symbol_piece symbols)) ≡ true
 within_no_feed brackets [] good = refl
 within_no_feed brackets (symbol ∷ symbols) good =
     let parts = both_true (is_symbol symbol) (list_all is_symbol symbols) good in
     no_feed_append (spelled_name symbol.kind symbol.name) (behind symbol.arity brackets ++ spelled_within (open_behind symbol.arity brackets) (map symbol_piece symbols)) (spelled_no_feed symbol.kind symbol.name (name_bytes symbol.kind symbol.name symbol.arity parts.0))
     (no_feed_append (behind symbol.arity brackets) (spelled_within (open_behind symbol.arity brackets) (map symbol_piece symbols)) (behind_no_feed symbol.arity brackets) (within_no_feed (open_behind symbol.arity brackets) symbols parts.1))
 
-symbols_named : (table : List Symbol) (word : List ℕ) → list_all is_symbol table ≡ true → list_all is_symbol (symbols_at table word) ≡ true
+pub symbols_named : (table : List Symbol) (word : List ℕ) → list_all is_symbol table ≡ true → list_all is_symbol (symbols_at table word) ≡ true
 symbols_named table [] named = refl
 symbols_named table (number ∷ word) named = by (slice_get table number) refl (symbols_named table word named)
   where

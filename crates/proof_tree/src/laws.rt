@@ -6,6 +6,7 @@ ghost use Rattle.mg_word.specs.Facts.{IsProblem, ProblemData, is_symbol};
 ghost use Rattle.tree_checker.specs.Docs.{IsWellFormed};
 ghost use Rattle.proof_tree.specs.DocFaults.{IsDocFault};
 ghost use Rattle.proof_tree.specs.DocText.{doc_text};
+ghost use Rattle.proof_tree.specs.LineLaws.{LinesAreSpelledApart, DocumentsLeadToTheirEnd, DocumentsHaveNoFirstFault};
 
 use tree_checker::{Doc, DocFault};
 
@@ -17,4 +18,19 @@ pub fn one_document_fault()
 /// No text of a well-formed document of a problem is the text of another one.
 pub fn documents_are_spelled_apart()
     ensures { (problem : ProblemData) → IsProblem problem → (a b : Doc) → IsWellFormed problem a → IsWellFormed problem b → doc_text problem a ≡ doc_text problem b → a ≡ b }
+{}
+
+/// A text is that of one line at most, whatever terms it names.
+pub fn lines_are_spelled_apart()
+    ensures { LinesAreSpelledApart }
+{}
+
+/// Each line of a well-formed document stands rightly, from the header to the end of the root's tree.
+pub fn documents_lead_to_their_end()
+    ensures { DocumentsLeadToTheirEnd }
+{}
+
+/// The text of a well-formed document has no first fault.
+pub fn documents_have_no_first_fault()
+    ensures { DocumentsHaveNoFirstFault }
 {}

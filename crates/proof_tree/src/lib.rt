@@ -7,6 +7,9 @@ mod lines;
 mod reading;
 mod writing;
 
-pub use laws::{documents_are_spelled_apart, one_document_fault};
+pub use laws::{
+    documents_are_spelled_apart, documents_have_no_first_fault, documents_lead_to_their_end,
+    lines_are_spelled_apart, one_document_fault,
+};
 pub use reading::read_doc;
 pub use writing::write_doc;
