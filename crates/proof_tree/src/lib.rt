@@ -12,4 +12,5 @@ pub use laws::{
     lines_are_spelled_apart, one_document_fault,
 };
 pub use reading::read_doc;
+pub use tree_checker::{DocFault, DocKind};
 pub use writing::write_doc;
