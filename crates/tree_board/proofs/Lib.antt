@@ -25,3 +25,7 @@ pub mod Journals
 pub mod Existence
 pub mod Turning
 pub mod OpenLists
+pub mod Shown
+pub mod Starting
+pub mod Budgets
+pub mod Kept

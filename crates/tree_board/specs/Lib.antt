@@ -1,4 +1,6 @@
 pub mod Boards
+pub mod CellStanding
+pub mod Cells
 pub mod Children
 pub mod Closings
 pub mod Effects
@@ -6,6 +8,7 @@ pub mod Events
 pub mod Facts
 pub mod FirstOpen
 pub mod Lawful
+pub mod Keeping
 pub mod Kinds
 pub mod Laws
 pub mod Leaves
@@ -13,6 +16,8 @@ pub mod NodeStates
 pub mod Nodes
 pub mod OpenLists
 pub mod PlainLaws
+pub mod Readers
+pub mod Searches
 pub mod Settings
 pub mod Splits
 pub mod Standing

@@ -1,11 +1,15 @@
 //! The search tree: nodes, events, kept lemmas and covering.
 #![tactic(auto)]
 
+mod board;
+mod cell;
 mod event;
 mod laws;
 mod mode;
 mod node;
+mod standing;
 
+pub use board::{Board, MOST_BUDGET, MOST_WEIGHT};
 pub use event::Event;
 pub use laws::{
     board_is_its_journal, boards_are_bounded, complete_board_covers, count_is_splits,

@@ -1,0 +1,5 @@
+//! Trials of boards, over problems that are read.
+#![tactic(auto)]
+
+#[cfg(test)]
+mod new_boards;

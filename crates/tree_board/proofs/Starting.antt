@@ -1,0 +1,36 @@
+-- The root's cell stands for the opening.
+use Rattle.std.proofs.Common.{◌≡◌, ◌≤◌, ℕ, List, [], ◌∷◌, false, None, refl, sym, subst}
+use Rattle.mg_word.specs.Facts.{ProblemData, IsProblem}
+use Rattle.tree_board.specs.declared.board.TheConstants.{MOST_BUDGET}
+use Rattle.tree_board.specs.declared.mode.Mode.{Mode}
+use Rattle.tree_board.specs.declared.mode.Limits.{Limits}
+use Rattle.mg_meaning.specs.Folding.{Pair}
+use Rattle.case_split.specs.declared.child.Closure.{Closure}
+use Rattle.tree_board.specs.declared.cell.Cell.{Cell}
+use Rattle.tree_board.specs.declared.event.Event.{Event}
+use Rattle.tree_board.specs.declared.cell.Settled.TheVariants.{Open as OpenCell}
+use Rattle.tree_board.specs.Effects.{replay_from}
+use Rattle.tree_board.specs.Keeping.{IsKeeping}
+
+pub opening_keeps : (problem : ProblemData) (mode : Mode) (limits : Limits) → IsProblem problem → limits.budget ≤ MOST_BUDGET
+    → IsKeeping (record { problem = problem; mode = mode; limits = limits; journal = [] }) (record { parent = 0; settled = OpenCell; is_closed = false; own_lemma = None } ∷ []) [] [] [] 0
+unfolding replay_from
+opening_keeps problem mode limits facts within = record {
+  problem = facts;
+  budget = within;
+  lawful = tt;
+  stand = record { nodes = (record { parent = refl; settled = refl; closed = refl; own = refl }, tt); pairs = refl; owners = refl };
+  count = refl;
+}
+
+-- fields that are so keep the opening
+pub starts : (problem : ProblemData) (mode : Mode) (limits : Limits) (journal : List Event) (cells : List Cell) (closures : List Closure) (lemmas : List Pair) (lemma_nodes : List ℕ) → IsProblem problem → limits.budget ≤ MOST_BUDGET
+    → journal ≡ [] → cells ≡ record { parent = 0; settled = OpenCell; is_closed = false; own_lemma = None } ∷ [] → closures ≡ [] → lemmas ≡ [] → lemma_nodes ≡ []
+    → IsKeeping (record { problem = problem; mode = mode; limits = limits; journal = journal }) cells closures lemmas lemma_nodes 0
+starts problem mode limits journal cells closures lemmas lemma_nodes facts within none root no_closure no_lemma no_owner =
+    subst (λ events. IsKeeping (record { problem = problem; mode = mode; limits = limits; journal = events }) cells closures lemmas lemma_nodes 0) (sym none)
+    (subst (λ one. IsKeeping (record { problem = problem; mode = mode; limits = limits; journal = [] }) one closures lemmas lemma_nodes 0) (sym root)
+    (subst (λ one. IsKeeping (record { problem = problem; mode = mode; limits = limits; journal = [] }) (record { parent = 0; settled = OpenCell; is_closed = false; own_lemma = None } ∷ []) one lemmas lemma_nodes 0) (sym no_closure)
+    (subst (λ one. IsKeeping (record { problem = problem; mode = mode; limits = limits; journal = [] }) (record { parent = 0; settled = OpenCell; is_closed = false; own_lemma = None } ∷ []) [] one lemma_nodes 0) (sym no_lemma)
+    (subst (λ one. IsKeeping (record { problem = problem; mode = mode; limits = limits; journal = [] }) (record { parent = 0; settled = OpenCell; is_closed = false; own_lemma = None } ∷ []) [] [] one 0) (sym no_owner)
+    (opening_keeps problem mode limits facts within)))))
