@@ -30,6 +30,8 @@ fn the_root_is_open(rt: HostRuntime) -> Result<(), Fail> {
         assert_eq!(rt; board.nodes(), 1);
         assert!(rt; matches!(board.state(), BoardState::Running));
         assert_eq!(rt; board.node_state(0), Some(NodeKind::Open));
+        let lits = board.lits(alloc, 0)?.ok_or("no root")?;
+        assert!(rt; lits.is_empty());
         assert!(rt; board.instance(0).is_none());
         assert_eq!(rt; board.first_child(0), None);
         assert!(rt; board.closed_at_once(0).is_none());
@@ -52,6 +54,7 @@ fn no_other_node_is_there(rt: HostRuntime) -> Result<(), Fail> {
     let board = Board::new(alloc, problem, Mode::List, limits)?;
     for node in [1, u32::MAX] {
         assert_eq!(rt; board.node_state(node), None);
+        assert!(rt; board.lits(alloc, node)?.is_none());
         assert!(rt; board.instance(node).is_none());
         assert_eq!(rt; board.first_child(node), None);
         assert!(rt; board.closed_at_once(node).is_none());

@@ -29,3 +29,4 @@ pub mod Shown
 pub mod Starting
 pub mod Budgets
 pub mod Kept
+pub mod Ways

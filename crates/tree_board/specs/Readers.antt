@@ -1,8 +1,9 @@
 -- What a node shows to callers, and what a cell shows of it.
 use Rattle.std.specs.List.{position}
-use Rattle.std.specs.Prelude.{ℕ, suc, nat_eq, Bool, true, false, List, Option, Some, None, option_map, option_and_then, slice_get}
+use Rattle.std.specs.Prelude.{ℕ, suc, ◌-◌, nat_eq, nat_lt, cond, Bool, true, false, List, Option, Some, None, option_map, option_and_then, slice_get}
 use Rattle.mg_word.specs.Words.{numbered}
 use Rattle.mg_word.specs.declared.form.Inst.{Inst}
+use Rattle.mg_word.specs.declared.lit.Lit.{Lit}
 use Rattle.case_split.specs.declared.child.Closure.{Closure}
 use Rattle.tree_board.specs.declared.cell.Cell.{Cell}
 use Rattle.tree_board.specs.declared.cell.Settled.{Settled}
@@ -71,6 +72,10 @@ own_number kept number = option_map (λ index. suc index) (position (λ one. nat
 abbrev pub lemma_node_at : List Kept → ℕ → Option ℕ
 lemma_node_at kept number = option_map (λ one. one.node) (numbered kept number)
 
+-- the literals of the node with this number, in path order
+abbrev pub lits_of : List Node → ℕ → Option (List Lit)
+lits_of nodes number = option_map (λ (node : Node). node.lits) (slice_get nodes number)
+
 -- ---- the same of cells
 
 -- the instance of an event
@@ -136,3 +141,19 @@ kind_of_cell false (HeavyCell event) = HeavyKind
 -- what the cell with this number shows
 abbrev pub cell_shows : {X : Type 0} → (Settled → Option X) → List Cell → ℕ → Option X
 cell_shows show cells number = option_and_then (λ (cell : Cell). show cell.settled) (slice_get cells number)
+
+-- the instance of the cell with this number
+abbrev pub instance_shown : List Cell → List Event → ℕ → Option Inst
+instance_shown cells journal number = option_and_then (λ event. option_and_then instance_in (slice_get journal event)) (cell_shows event_of_cell cells number)
+
+-- the conclusion of the instance for the child with this number, where the first child has that one
+abbrev pub case_in : Inst → ℕ → ℕ → Option Lit
+case_in inst first number = cond (nat_lt number first) None (slice_get inst.conclusions (number - first))
+
+-- what the parent's event gives a node
+abbrev pub literal_from : List Cell → List Event → ℕ → ℕ → Option Lit
+literal_from cells journal number parent = option_and_then (λ first. option_and_then (λ inst. case_in inst first number) (instance_shown cells journal parent)) (cell_shows first_child_of_cell cells parent)
+
+-- the literal of the node with this number; the root has none
+abbrev pub literal_in : List Cell → List Event → ℕ → Option Lit
+literal_in cells journal number = cond (nat_eq number 0) None (option_and_then (λ (cell : Cell). literal_from cells journal number cell.parent) (slice_get cells number))

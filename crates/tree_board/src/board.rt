@@ -1,22 +1,23 @@
 //! The board: the search tree that its journal leaves.
 
-ghost use Rattle.std.specs.Prelude.{◌≡◌, ◌<◌, ◌≤◌, [], IfOk, length, option_map, slice_get};
+ghost use Rattle.std.specs.Prelude.{◌≡◌, ◌<◌, ◌≤◌, [], IfOk, Some, length, option_map, slice_get};
 ghost use Rattle.std.specs.Arc.{arc_value};
 ghost use Rattle.std.specs.Option.{option_copied};
 ghost use Rattle.mg_word.specs.Words.{numbered};
 ghost use Rattle.tree_board.specs.Boards.{count, pair_at};
 ghost use Rattle.tree_board.specs.Kinds.{kind_of};
-ghost use Rattle.tree_board.specs.Readers.{instance_of, first_child_of, lemma_by, lemma_node_at, closure_at, own_number, shown};
+ghost use Rattle.tree_board.specs.Readers.{instance_of, first_child_of, lemma_by, lemma_node_at, lits_of, closure_at, own_number, shown};
 ghost use Rattle.tree_board.specs.Standing.{state_of};
 
 use crate::cell::{
-    self, Cell, Settled, first_child_at, instance_at, kind_at, lemma_at, own_lemma_at,
+    self, Cell, Settled, first_child_at, instance_at, kind_at, lemma_at, literal_at, own_lemma_at,
+    parent_at,
 };
 use crate::standing::standing;
 use crate::{BoardState, Event, Limits, Mode, NodeKind};
 use branch_lemmas::{Lemma, LemmaIndex};
 use case_split::Closure;
-use mg_word::{Inst, NoMemory, Problem};
+use mg_word::{Inst, Lit, NoMemory, Problem};
 use std::alloc::Global;
 use std::marker::Model;
 use std::sync::Arc;
@@ -157,6 +158,33 @@ impl Board {
         ensures { result ≡ option_map kind_of (slice_get (board_of self.now).nodes node) }
     {
         kind_at(self.cells.as_slice(), node)
+    }
+
+    // The literals of the node with this number, which is there.
+    fn lits_at(&self, alloc: Global, node: u32) -> Result<Vec<Lit>, NoMemory>
+        requires { node < length (board_of self.now).nodes }
+        ensures { IfOk result (λ lits. lits_of (board_of self.now).nodes node ≡ Some lits.items) }
+    {
+        let cells = self.cells.as_slice();
+        let journal = self.journal.as_slice();
+        let mut lits = Vec::new(alloc);
+        let mut at = node;
+        'up: while let Some(lit) = literal_at(cells, journal, at) {
+            lits.push(lit.copy()?)?;
+            at = parent_at(cells, at);
+        }
+        lits.reverse();
+        Ok(lits)
+    }
+
+    /// The literals of the node with this number in path order, if there is one.
+    pub fn lits(&self, alloc: Global, node: u32) -> Result<Option<Vec<Lit>>, NoMemory>
+        ensures { IfOk result (λ lits. option_map (λ own. own.items) lits ≡ lits_of (board_of self.now).nodes node) }
+    {
+        if node >= self.nodes() {
+            return Ok(None);
+        }
+        Ok(Some(self.lits_at(alloc, node)?))
     }
 
     /// The instance that split or rejected the node with this number, or was too heavy there.

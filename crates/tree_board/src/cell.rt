@@ -1,13 +1,13 @@
 //! What the board keeps of each node: no literals, which the events of the nodes above give.
 
-ghost use Rattle.std.specs.Prelude.{◌≡◌, option_map, option_and_then, slice_get};
+ghost use Rattle.std.specs.Prelude.{◌≡◌, ◌<◌, Some, length, option_map, option_and_then, slice_get};
 ghost use Rattle.std.specs.Option.{option_copied};
-ghost use Rattle.tree_board.specs.Readers.{event_of_cell, first_child_of_cell, lemma_of_cell, closure_of_cell, kind_of_cell, cell_shows, instance_in};
+ghost use Rattle.tree_board.specs.Readers.{event_of_cell, first_child_of_cell, lemma_of_cell, closure_of_cell, kind_of_cell, cell_shows, instance_shown, case_in, literal_in};
 ghost use Rattle.tree_board.specs.CellStanding.{is_open_yet, is_found_set, is_too_heavy};
 
 use crate::{Event, NodeKind};
 use case_split::Closure;
-use mg_word::Inst;
+use mg_word::{Inst, Lit};
 
 /// What settled a node, with places in lists of the board in place of instances and closures.
 #[derive(Clone, Copy, Debug)]
@@ -120,7 +120,7 @@ pub fn kind_at(cells: &[Cell], node: u32) -> Option<NodeKind>
 
 /// The instance of the node with this number.
 pub fn instance_at<'a>(cells: &[Cell], journal: &'a [Event], node: u32) -> Option<&'a Inst>
-    ensures { option_copied result ≡ option_and_then (λ event. option_and_then instance_in (slice_get journal.now event)) (cell_shows event_of_cell cells.now node) }
+    ensures { option_copied result ≡ instance_shown cells.now journal.now node }
 {
     let cell = cells.get(node as usize)?;
     let event = cell.settled.event()?;
@@ -156,4 +156,33 @@ pub fn own_lemma_at(cells: &[Cell], node: u32) -> Option<u32>
     ensures { result ≡ option_and_then (λ cell. cell.own_lemma) (slice_get cells.now node) }
 {
     cells.get(node as usize)?.own_lemma
+}
+
+/// The number of the parent of the node with this number.
+pub fn parent_at(cells: &[Cell], node: u32) -> u32
+    requires { node < length cells.now }
+    ensures { option_map (λ cell. cell.parent) (slice_get cells.now node) ≡ Some result }
+{
+    cells[node as usize].parent
+}
+
+// The conclusion that the child with this number has, where the first child has that one.
+fn case_at(inst: &Inst, first: u32, node: u32) -> Option<&Lit>
+    ensures { option_copied result ≡ case_in inst.now first node }
+{
+    let place = node.checked_sub(first)?;
+    inst.conclusions.as_slice().get(place as usize)
+}
+
+/// The last literal of the node with this number, which the event of its parent gives. The root has none.
+pub fn literal_at<'a>(cells: &[Cell], journal: &'a [Event], node: u32) -> Option<&'a Lit>
+    ensures { option_copied result ≡ literal_in cells.now journal.now node }
+{
+    if node == 0 {
+        return None;
+    }
+    let parent = cells.get(node as usize)?.parent;
+    let first = first_child_at(cells, parent)?;
+    let inst = instance_at(cells, journal, parent)?;
+    case_at(inst, first, node)
 }
