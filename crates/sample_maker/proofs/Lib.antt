@@ -1,0 +1,4 @@
+pub mod Digits
+mod Examples
+pub mod Facts
+pub mod Symbols
