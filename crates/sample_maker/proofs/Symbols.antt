@@ -3,30 +3,19 @@ use Rattle.std.proofs.Common.{◌≡◌, ℕ, zero, suc, ◌+◌, ◌-◌, ◌*�
 use Rattle.std.specs.List.{flat_map, range_with_len}
 use mathlib.Core.Logic.{⊎_elim}
 use Rattle.std.proofs.lemmas.List.Elements.{Contains-append_cases}
+use Rattle.std.proofs.lemmas.List.FromFn.{map-range_with_len_more}
 use Rattle.mg_word.specs.Table.{Symbol}
 use Rattle.sample_maker.specs.Sample.{AreNumbered, both, symbol, sample_symbols, number_of_a, number_of_b, up_to}
 use Rattle.sample_maker.proofs.Digits.{same_number}
 
--- numbers from one on, with one more at the end
-more_numbers : (first count : ℕ) → range_with_len first (suc count) ≡ range_with_len first count ++ (first + count) ∷ []
-more_numbers first zero = ap (λ n. n ∷ []) (omega arith)
-more_numbers first (suc count) = ap (λ ns. first ∷ ns) (more_numbers (first + 1) count ∙ ap (λ n. range_with_len (first + 1) count ++ n ∷ []) (omega arith))
-
-more_mapped : {X : Type 0} (f : ℕ → X) (first count : ℕ) → map f (range_with_len first (suc count)) ≡ map f (range_with_len first count) ++ f (first + count) ∷ []
-more_mapped f first zero = ap (λ n. f n ∷ []) (omega arith)
-more_mapped f first (suc count) = ap (λ ys. f first ∷ ys) (more_mapped f (first + 1) count ∙ ap (λ n. map f (range_with_len (first + 1) count) ++ f n ∷ []) (omega arith))
-
+-- both of numbers from one on, with one more at the end
 more_both : (first count : ℕ) → flat_map both (range_with_len first (suc count)) ≡ flat_map both (range_with_len first count) ++ both (first + count)
 more_both first zero = ap (λ n. both n) (omega arith)
 more_both first (suc count) = ap (λ ys. both first ++ ys) (more_both (first + 1) count ∙ ap (λ n. flat_map both (range_with_len (first + 1) count) ++ both n) (omega arith))
 
 -- a list of the first numbers goes on
 pub next_mapped : {X : Type 0} (f : ℕ → X) (i : ℕ) → 1 ≤ i → map f (up_to i) ≡ map f (up_to (i - 1)) ++ f i ∷ []
-next_mapped f zero positive = absurd (omega arith)
-next_mapped f (suc count) positive =
-    let before : suc count - 1 ≡ count = omega arith in
-    let last : 1 + count ≡ suc count = omega arith in
-    rw before (more_mapped f 1 count ∙ ap (λ n. map f (range_with_len 1 count) ++ f n ∷ []) last)
+next_mapped f i positive = let back : i - 1 + 1 ≡ i = omega arith in rw back at (map-range_with_len_more f 1 (i - 1) i (omega arith))
 
 pub next_symbols : (i : ℕ) → 1 ≤ i → sample_symbols i ≡ sample_symbols (i - 1) ++ both i
 next_symbols zero positive = absurd (omega arith)

@@ -1,6 +1,7 @@
 //! The clauses of a sample.
 
 ghost use Rattle.std.specs.Prelude.{◌≡◌, ◌≤◌, ◌<◌, ◌∷◌, [], IfOk, OnOk, ◌+◌, ◌-◌, ◌++◌, map, string_bytes};
+ghost use Rattle.sample_maker.specs.declared.limits.TheConstants.{MOST_SIZE};
 ghost use Rattle.sample_maker.specs.Sample as sample;
 
 use crate::names::numbered;
@@ -10,7 +11,7 @@ use std::alloc::Global;
 // The number of `ai` among the symbols.
 fn number_of_a(i: u32) -> u32
     requires low { 1 ≤ i }
-    requires high { i < 100 }
+    requires high { i ≤ MOST_SIZE }
     ensures { result ≡ sample.number_of_a i }
 {
     2 * (i - 1)
@@ -51,7 +52,7 @@ fn clause_on(line: u32, name: String, literals: Vec<ClauseLit>) -> Clause
 // `ai|bi`.
 fn choice(alloc: Global, i: u32) -> Result<Clause, NoMemory>
     requires low { 1 ≤ i }
-    requires high { i < 100 }
+    requires high { i ≤ MOST_SIZE }
     ensures { IfOk result (λ clause. clause ≡ sample.choice i) }
 {
     let a = number_of_a(i);
@@ -62,8 +63,8 @@ fn choice(alloc: Global, i: u32) -> Result<Clause, NoMemory>
 // `~ai|~aj`, where `j` is one more.
 fn neighbours(alloc: Global, size: u32, i: u32) -> Result<Clause, NoMemory>
     requires low { 1 ≤ i }
-    requires high { i + 1 < 100 }
-    requires small { size < 100 }
+    requires high { i < size }
+    requires small { size ≤ MOST_SIZE }
     ensures { IfOk result (λ clause. clause ≡ sample.neighbours size i) }
 {
     let this = literal(alloc, true, number_of_a(i))?;
@@ -74,7 +75,7 @@ fn neighbours(alloc: Global, size: u32, i: u32) -> Result<Clause, NoMemory>
 
 // Adds the choices up to the size.
 fn push_choices(alloc: Global, clauses: &mut Vec<Clause>, size: u32) -> Result<(), NoMemory>
-    requires { size < 99 }
+    requires { size ≤ MOST_SIZE }
     ensures { OnOk result (clauses.new.items ≡ clauses.old.items ++ map sample.choice (sample.up_to size)) }
 {
     for i in 1..size + 1 {
@@ -86,7 +87,7 @@ fn push_choices(alloc: Global, clauses: &mut Vec<Clause>, size: u32) -> Result<(
 // Adds neighbours for each number below the size.
 fn push_neighbours(alloc: Global, clauses: &mut Vec<Clause>, size: u32) -> Result<(), NoMemory>
     requires low { 1 ≤ size }
-    requires high { size < 100 }
+    requires high { size ≤ MOST_SIZE }
     ensures { OnOk result (clauses.new.items ≡ clauses.old.items ++ map (sample.neighbours size) (sample.up_to (size - 1))) }
 {
     for i in 1..size {
@@ -98,7 +99,7 @@ fn push_neighbours(alloc: Global, clauses: &mut Vec<Clause>, size: u32) -> Resul
 /// The choices up to the size, and then neighbours for each number below it.
 pub fn sample_clauses(alloc: Global, size: u32) -> Result<Items<Clause>, NoMemory>
     requires low { 1 ≤ size }
-    requires high { size < 99 }
+    requires high { size ≤ MOST_SIZE }
     ensures { IfOk result (λ clauses. clauses ≡ sample.sample_clauses size) }
 {
     let mut clauses = Vec::new(alloc);

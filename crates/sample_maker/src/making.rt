@@ -1,6 +1,6 @@
 //! The sample of a size.
 
-ghost use Rattle.std.specs.Prelude.{◌≡◌, ◌≤◌, ◌++◌, Contains, length, ◌↔◌, ◌∷◌, [], ◌<◌, ◌-◌, IfOk, OnOk, IfErr, codes};
+ghost use Rattle.std.specs.Prelude.{◌≡◌, ◌≤◌, ◌++◌, Contains, length, ◌↔◌, ◌∷◌, [], ◌-◌, ◌*◌, IfOk, OnOk, IfErr, codes};
 ghost use Rattle.sample_maker.specs.Sample as sample;
 
 use crate::clauses::sample_clauses;
@@ -11,8 +11,8 @@ use std::alloc::Global;
 
 // Adds the symbol of that letter and number, which is new.
 fn push_symbol(alloc: Global, symbols: &mut Symbols, letter: &str, i: u32) -> Result<(), NoMemory>
-    requires short { i < 100 }
-    requires few { length symbols.old < 200 }
+    requires short { i ≤ MOST_SIZE }
+    requires few { length symbols.old ≤ 2 * MOST_SIZE }
     requires new { ¬ Contains symbols.old (sample.symbol letter.now i) }
     ensures { OnOk result (symbols.new ≡ symbols.old ++ sample.symbol letter.now i ∷ []) }
 {
@@ -23,7 +23,7 @@ fn push_symbol(alloc: Global, symbols: &mut Symbols, letter: &str, i: u32) -> Re
 // Adds `ai` and `bi` to the symbols up to them.
 fn push_both(alloc: Global, symbols: &mut Symbols, i: u32) -> Result<(), NoMemory>
     requires low { 1 ≤ i }
-    requires high { i < 100 }
+    requires high { i ≤ MOST_SIZE }
     requires before { symbols.old ≡ sample.sample_symbols (i - 1) }
     ensures { OnOk result (symbols.new ≡ sample.sample_symbols i) }
 {
@@ -34,7 +34,7 @@ fn push_both(alloc: Global, symbols: &mut Symbols, i: u32) -> Result<(), NoMemor
 
 // The symbols `a01`, `b01`, `a02`, `b02` and so on.
 fn sample_symbols(alloc: Global, size: u32) -> Result<Symbols, NoMemory>
-    requires { size < 99 }
+    requires { size ≤ MOST_SIZE }
     ensures { IfOk result (λ symbols. symbols ≡ sample.sample_symbols size) }
 {
     let mut symbols = Symbols::new(alloc)?;
