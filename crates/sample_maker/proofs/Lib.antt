@@ -1,4 +1,5 @@
 pub mod Digits
 mod Examples
 pub mod Facts
+pub mod Lines
 pub mod Symbols

@@ -1,5 +1,5 @@
 -- The sample problem of a size: `ai` or `bi` for each `i` up to the size, and no two neighbouring `a`.
-use Rattle.std.specs.Prelude.{ℕ, ◌+◌, ◌-◌, ◌*◌, ◌/◌, ◌%◌, ◌<◌, ◌≤◌, ◌≡◌, ◌⊎◌, true, false, List, [], ◌∷◌, ◌++◌, map, slice_get, Some, codes}
+use Rattle.std.specs.Prelude.{ℕ, ◌+◌, ◌-◌, ◌*◌, ◌/◌, ◌%◌, ◌<◌, ◌≤◌, ◌≡◌, ◌⊎◌, true, false, List, [], ◌∷◌, ◌++◌, map, length, slice_get, Some, codes}
 use Rattle.std.specs.List.{flat_map, range_with_len}
 use Rattle.mg_word.specs.Facts.{InputData}
 use Rattle.mg_word.specs.Table.{Symbol, symbol_of}
@@ -8,6 +8,7 @@ use Rattle.mg_word.specs.declared.item.Item.TheVariants.{Sym}
 use Rattle.mg_word.specs.declared.clause.ClauseLit.{ClauseLit}
 use Rattle.mg_word.specs.declared.clause.ClauseLit.TheVariants.{Lit as Literal}
 use Rattle.mg_word.specs.declared.clause.Clause.{Clause}
+use Rattle.mg_word.specs.declared.clause.Place.{Place}
 use Rattle.sample_maker.specs.declared.limits.TheConstants.{MOST_SIZE}
 
 -- there is no sample of the size
@@ -74,6 +75,14 @@ neighbours size i = clause_on (size + i) (numbered (codes "d") i) (negated (numb
 -- a choice for each number up to the size, then neighbours for each but the last
 abbrev pub sample_clauses : ℕ → List Clause
 sample_clauses size = map choice (up_to size) ++ map (neighbours size) (up_to (size - 1))
+
+-- the start of a line of the first file
+abbrev pub start_of : ℕ → Place
+start_of line = record { file = 0; line = line; column = 1 }
+
+-- each clause begins a line of its own, from the first line on and with none left out
+abbrev pub AreOnLines : List Clause → Type 0
+AreOnLines clauses = map (λ clause. clause.place) clauses ≡ map start_of (up_to (length clauses))
 
 -- the input, of one file
 abbrev pub sample_input : ℕ → InputData

@@ -62,6 +62,7 @@ fn sample_files(alloc: Global) -> Result<Items<Text>, NoMemory>
 pub fn sample(alloc: Global, size: u32) -> Result<Input, SampleFault>
     ensures answer { IfOk result (λ input. input ≡ sample.sample_input size) }
     ensures numbers { IfOk result (λ input. sample.AreNumbered size input.symbols) }
+    ensures lines { IfOk result (λ input. sample.AreOnLines input.clauses) }
     ensures within { IfOk result (λ _. ¬ sample.IsOutOfRange size) }
     ensures range { IfErr result (λ fault. (fault ≡ SampleFault.Range) ↔ sample.IsOutOfRange size) }
 {

@@ -1,5 +1,6 @@
 use Rattle.std.proofs.Common.{◌≡◌, ◌*◌, length, ap, ◌∙◌, arith}
 use Rattle.sample_maker.proofs.Facts.{sample_is_input}
+use Rattle.sample_maker.proofs.Lines.{are_on_lines}
 use Rattle.sample_maker.proofs.Symbols.{are_numbered, length_symbols}
 use Rattle.sample_maker.proofs.making.sample.Goals as goal
 
@@ -13,3 +14,6 @@ invariant_of-result c =
 
 pub returns-clause-numbers : goal.returns-clause-numbers
 returns-clause-numbers c = rw c.in_ok-symbols.ensures (are_numbered c.args.size)
+
+pub returns-clause-lines : goal.returns-clause-lines
+returns-clause-lines c = rw c.in_ok-clauses.ensures (are_on_lines c.args.size (omega arith))
