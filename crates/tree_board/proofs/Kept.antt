@@ -119,7 +119,7 @@ module _ (journal : List Event) (closures : List Closure) (kept : List Kept) whe
   no_cell first (cell ∷ cells) (node ∷ nodes) (here, stand) (suc index) past = no_cell (suc first) cells nodes stand index past
 
 -- of a number that no node has, no lemma is kept
-own_past : (setting : Setting) (board : Board) → IsBoard setting board → (number : ℕ) → slice_get board.nodes number ≡ None → own_number board.kept number ≡ None
+pub own_past : (setting : Setting) (board : Board) → IsBoard setting board → (number : ℕ) → slice_get board.nodes number ≡ None → own_number board.kept number ≡ None
 own_past setting board facts number past = by (position (λ (one : Kept). nat_eq one.node number) board.kept) refl
   where
     by : (found : Option ℕ) → position (λ (one : Kept). nat_eq one.node number) board.kept ≡ found → own_number board.kept number ≡ None

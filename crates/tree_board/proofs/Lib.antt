@@ -30,3 +30,5 @@ pub mod Starting
 pub mod Budgets
 pub mod Kept
 pub mod Ways
+pub mod CellMoves
+pub mod FirstLemma
