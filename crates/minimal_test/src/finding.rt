@@ -1,0 +1,43 @@
+//! What a rule comes to.
+
+ghost use Rattle.std.specs.Prelude.{◌≡◌};
+ghost use Rattle.minimal_test.specs.Findings.{IsFinding, finding_of};
+
+use crate::rest::{Rest, rest_of};
+use crate::rule::Rule;
+use crate::side::Side;
+
+/// What a rule comes to under the sides so far.
+#[derive(Clone, Copy, Debug)]
+pub enum Finding {
+    /// All premises are in, and all conclusions out.
+    Broken,
+    /// The open place has to be in, or out.
+    Forced(usize, bool),
+    /// Neither.
+    Quiet,
+}
+
+// From what is left of the premises, which are wanted in, and of the conclusions, which are wanted out.
+fn finding_of(premises: Rest, conclusions: Rest) -> Finding
+    ensures { result ≡ finding_of premises conclusions }
+{
+    match (premises, conclusions) {
+        (Rest::Done, Rest::Done) => Finding::Broken,
+        (Rest::Done, Rest::Only(place)) => Finding::Forced(place, true),
+        (Rest::Only(place), Rest::Done) => Finding::Forced(place, false),
+        (Rest::Done, Rest::Free) => Finding::Quiet,
+        (Rest::Only(_), Rest::Only(_)) => Finding::Quiet,
+        (Rest::Only(_), Rest::Free) => Finding::Quiet,
+        (Rest::Free, _) => Finding::Quiet,
+    }
+}
+
+/// What the rule comes to.
+pub fn look(rule: &Rule, sides: &[Side]) -> Finding
+    ensures { IsFinding sides.now rule.now result }
+{
+    let premises = rest_of(sides, true, rule.premises.as_slice());
+    let conclusions = rest_of(sides, false, rule.conclusions.as_slice());
+    finding_of(premises, conclusions)
+}

@@ -1,0 +1,61 @@
+//! The search for a choice that keeps rules: the least open place is tried out, and put in where that fails.
+
+ghost use Rattle.std.specs.Prelude.{IfOk, MatchOption, IsTrue, replicate};
+ghost use Rattle.minimal_test.specs.Choices.{keeps, chosen_of};
+ghost use Rattle.minimal_test.specs.Paths.{IsDead, Leads};
+ghost use Rattle.minimal_test.specs.Rounds.{IsRound};
+
+use crate::path::{Path, Step};
+use crate::propagation::propagate;
+use crate::rule::Rule;
+use crate::side::{Side, first_open};
+use mg_word::NoMemory;
+use std::alloc::Global;
+
+/// What a round of the search came to.
+#[derive(Clone, Copy, Debug)]
+pub enum Round {
+    /// The sides are a choice that keeps the rules.
+    Found,
+    /// No choice does.
+    Exhausted,
+    /// Neither yet.
+    Further,
+}
+
+// One round.
+fn advance(rules: &[Rule], path: &mut Path) -> Result<Round, NoMemory>
+    requires { (start : _) × Leads rules.now start path.old.trail.items path.old.sides.items }
+    ensures { IfOk result (IsRound rules.now path.old path.new) }
+{
+    if propagate(rules, path)? {
+        let Some(place) = first_open(path.sides.as_slice()) else {
+            return Ok(Round::Found);
+        };
+        path.put(Step {
+            place,
+            is_in: false,
+            is_tried: true,
+        })?;
+        return Ok(Round::Further);
+    }
+    if path.flip()? {
+        Ok(Round::Further)
+    } else {
+        Ok(Round::Exhausted)
+    }
+}
+
+/// The sides of so many places under a choice that keeps the rules, and nothing where no choice does.
+pub fn solve(alloc: Global, rules: &[Rule], count: usize) -> Result<Option<Vec<Side>>, NoMemory>
+    ensures { IfOk result (λ found. MatchOption found (IsDead rules.now (replicate count Side.Open)) (λ sides. IsTrue (keeps (chosen_of sides.items) rules.now))) }
+{
+    let mut path = Path::new(alloc, count)?;
+    loop {
+        match advance(rules, &mut path)? {
+            Round::Found => return Ok(Some(path.sides)),
+            Round::Exhausted => return Ok(None),
+            Round::Further => {}
+        }
+    }
+}
