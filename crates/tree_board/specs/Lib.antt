@@ -1,3 +1,4 @@
+pub mod Alone
 pub mod Boards
 pub mod CellStanding
 pub mod Cells
@@ -19,6 +20,7 @@ pub mod PlainLaws
 pub mod Readers
 pub mod Searches
 pub mod Settings
+pub mod Settling
 pub mod Splits
 pub mod Standing
 pub mod Stuck

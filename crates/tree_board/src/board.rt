@@ -31,15 +31,15 @@ pub const MOST_WEIGHT: u32 = 4_096;
 /// A search: contracts see its problem, mode and limits, and its journal, which leaves the board.
 #[derive(Drop)]
 pub struct Board {
-    problem: Arc<Problem>,
-    mode: Mode,
-    limits: Limits,
-    cells: Vec<Cell>,
-    journal: Vec<Event>,
-    closures: Vec<Closure>,
-    lemmas: LemmaIndex,
-    lemma_nodes: Vec<u32>,
-    count: u32,
+    pub(crate) problem: Arc<Problem>,
+    pub(crate) mode: Mode,
+    pub(crate) limits: Limits,
+    pub(crate) cells: Vec<Cell>,
+    pub(crate) journal: Vec<Event>,
+    pub(crate) closures: Vec<Closure>,
+    pub(crate) lemmas: LemmaIndex,
+    pub(crate) lemma_nodes: Vec<u32>,
+    pub(crate) count: u32,
 }
 
 impl Model for Board {

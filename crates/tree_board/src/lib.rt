@@ -1,14 +1,18 @@
 //! The search tree: nodes, events, kept lemmas and covering.
 #![tactic(auto)]
 
+mod alone;
 mod board;
 mod cell;
 mod event;
+mod growing;
 mod laws;
 mod mode;
 mod node;
+mod quick;
 mod standing;
 
+pub use alone::finish_alone;
 pub use board::{Board, MOST_BUDGET, MOST_WEIGHT};
 pub use event::Event;
 pub use laws::{
