@@ -3,7 +3,7 @@ use Rattle.std.specs.Prelude.{◌≡◌, ◌≤◌, ℕ, List}
 use Rattle.mg_word.specs.Facts.{IsProblem}
 use Rattle.mg_meaning.specs.Folding.{Pair}
 use Rattle.case_split.specs.declared.child.Closure.{Closure}
-use Rattle.tree_board.specs.declared.board.TheConstants.{MOST_BUDGET}
+use Rattle.tree_board.specs.declared.board.TheConstants.{MOST_BUDGET, MOST_WEIGHT}
 use Rattle.tree_board.specs.declared.cell.Cell.{Cell}
 use Rattle.tree_board.specs.Boards.{opening, count}
 use Rattle.tree_board.specs.Lawful.{AreLawful}
@@ -14,6 +14,7 @@ use Rattle.tree_board.specs.Cells.{StandForBoard}
 pub record IsKeeping (search : Search) (cells : List Cell) (closures : List Closure) (lemmas : List Pair) (lemma_nodes : List ℕ) (extends : ℕ) : Type 0 where
   pub problem : IsProblem search.problem
   pub budget : search.limits.budget ≤ MOST_BUDGET
+  pub weight : search.limits.weight ≤ MOST_WEIGHT
   pub lawful : AreLawful (setting_of search) opening search.journal
   pub stand : StandForBoard search.journal (board_of search) cells closures lemmas lemma_nodes
   pub count : extends ≡ count (board_of search)

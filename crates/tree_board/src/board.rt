@@ -4,8 +4,9 @@ ghost use Rattle.std.specs.Prelude.{◌≡◌, ◌<◌, ◌≤◌, [], IfOk, Som
 ghost use Rattle.std.specs.Arc.{arc_value};
 ghost use Rattle.std.specs.Option.{option_copied};
 ghost use Rattle.mg_word.specs.Words.{numbered};
-ghost use Rattle.tree_board.specs.Boards.{count, pair_at};
+ghost use Rattle.tree_board.specs.Boards.{count, opening, pair_at};
 ghost use Rattle.tree_board.specs.Kinds.{kind_of};
+ghost use Rattle.tree_board.specs.Lawful.{AreLawful};
 ghost use Rattle.tree_board.specs.Readers.{instance_of, first_child_of, lemma_by, lemma_node_at, lits_of, closure_at, own_number, shown};
 ghost use Rattle.tree_board.specs.Standing.{state_of};
 
@@ -116,14 +117,17 @@ impl Board {
 
     /// How far it may go.
     pub fn limits(&self) -> Limits
-        ensures { result ≡ self.now.limits }
+        ensures same { result ≡ self.now.limits }
+        ensures budget { self.now.limits.budget ≤ MOST_BUDGET }
+        ensures weight { self.now.limits.weight ≤ MOST_WEIGHT }
     {
         self.limits
     }
 
-    /// All events so far, in order.
+    /// All events so far, in order: each was lawful in its turn.
     pub fn journal(&self) -> &[Event]
-        ensures { result.now ≡ self.now.journal }
+        ensures same { result.now ≡ self.now.journal }
+        ensures lawful { AreLawful (setting_of self.now) opening self.now.journal }
     {
         self.journal.as_slice()
     }
