@@ -32,3 +32,4 @@ pub mod Kept
 pub mod Ways
 pub mod CellMoves
 pub mod FirstLemma
+pub mod Lightness

@@ -27,3 +27,4 @@ pub mod Stuck
 pub mod TreeOrder
 pub mod Turns
 pub mod WorkerLaws
+pub mod Lightness

@@ -2,6 +2,7 @@
 
 ghost use Rattle.tree_board.specs.FirstOpen.{WalkFindsFirst};
 ghost use Rattle.tree_board.specs.Laws.{ReplaysAreBoards, NoMinimalIsLost, CompleteCovers, CountIsSplits, OneIsLawful, EachPassesLive, DeadIsClosed, RefuteIsNeverComplete, OpenIsDue, BoardsAreBounded, TreeOrderIsPreorder, BoardIsItsJournal};
+ghost use Rattle.tree_board.specs.Lightness.{LiteralsAreLight};
 ghost use Rattle.tree_board.specs.OpenLists.{OpenNodesAreListed};
 ghost use Rattle.tree_board.specs.PlainLaws.{PlainBounds, StuckExceeds, PlainGoesOn};
 ghost use Rattle.tree_board.specs.Turns.{WalkGoesByTurns};
@@ -105,4 +106,9 @@ pub fn walk_goes_by_turns()
 /// The first open node is the head of the list of all, in which an event puts the open children in the place of its node.
 pub fn open_nodes_are_listed()
     ensures { OpenNodesAreListed }
+{}
+
+/// The literals of each node weigh at most the limit.
+pub fn literals_are_light()
+    ensures { LiteralsAreLight }
 {}
