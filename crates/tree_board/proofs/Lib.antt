@@ -33,3 +33,4 @@ pub mod Ways
 pub mod CellMoves
 pub mod FirstLemma
 pub mod Lightness
+pub mod BarredWays

@@ -28,3 +28,4 @@ pub mod TreeOrder
 pub mod Turns
 pub mod WorkerLaws
 pub mod Lightness
+pub mod Barring

@@ -2,6 +2,7 @@
 #![tactic(auto)]
 
 mod alone;
+mod barring;
 mod board;
 mod cell;
 mod event;
