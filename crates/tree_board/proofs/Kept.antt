@@ -37,7 +37,7 @@ module _ {X Y : Type 0} (f : X → Y) where
   numbered-map xs (suc index) = slice_get-map f xs index
 
 module _ (journal : List Event) (closures : List Closure) (kept : List Kept) where
-  open_same : (number : ℕ) (settled : Settled) (state : NodeState) → StandsForState journal closures number settled state → is_open_yet settled ≡ is_open state
+  pub open_same : (number : ℕ) (settled : Settled) (state : NodeState) → StandsForState journal closures number settled state → is_open_yet settled ≡ is_open state
   open_same number settled Open e = ap is_open_yet e
   open_same number settled (Split inst first) (event, e, at) = ap is_open_yet e
   open_same number settled (Rejected inst) (event, e, at) = ap is_open_yet e
@@ -47,7 +47,7 @@ module _ (journal : List Event) (closures : List Closure) (kept : List Kept) whe
   open_same number settled (Covered cover) e = ap is_open_yet e
   open_same number settled (Heavy inst) (event, e, at) = ap is_open_yet e
 
-  found_same : (number : ℕ) (settled : Settled) (state : NodeState) → StandsForState journal closures number settled state → is_found_set settled ≡ is_found state
+  pub found_same : (number : ℕ) (settled : Settled) (state : NodeState) → StandsForState journal closures number settled state → is_found_set settled ≡ is_found state
   found_same number settled Open e = ap is_found_set e
   found_same number settled (Split inst first) (event, e, at) = ap is_found_set e
   found_same number settled (Rejected inst) (event, e, at) = ap is_found_set e
@@ -73,7 +73,7 @@ module _ (journal : List Event) (closures : List Closure) (kept : List Kept) whe
   length_seen first (cell ∷ cells) [] stand = absurd stand
   length_seen first (cell ∷ cells) (node ∷ nodes) (one, stand) = ap suc (length_seen (suc first) cells nodes stand)
 
-  any_seen : (f : Settled → Bool) (g : NodeState → Bool) → ((number : ℕ) (settled : Settled) (state : NodeState) → StandsForState journal closures number settled state → f settled ≡ g state)
+  pub any_seen : (f : Settled → Bool) (g : NodeState → Bool) → ((number : ℕ) (settled : Settled) (state : NodeState) → StandsForState journal closures number settled state → f settled ≡ g state)
       → (first : ℕ) (cells : List Cell) (nodes : List Node) → StandForNodes journal closures kept first cells nodes → list_any (λ (cell : Cell). f cell.settled) cells ≡ list_any (λ (node : Node). g node.state) nodes
   any_seen f g same first [] [] stand = refl
   any_seen f g same first [] (node ∷ nodes) stand = absurd stand

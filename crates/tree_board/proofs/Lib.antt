@@ -34,3 +34,4 @@ pub mod CellMoves
 pub mod FirstLemma
 pub mod Lightness
 pub mod BarredWays
+pub mod QuickSettling

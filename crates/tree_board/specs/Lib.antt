@@ -29,3 +29,4 @@ pub mod Turns
 pub mod WorkerLaws
 pub mod Lightness
 pub mod Barring
+pub mod Quick

@@ -165,7 +165,7 @@ impl Board {
     }
 
     // The literals of the node with this number, which is there.
-    fn lits_at(&self, alloc: Global, node: u32) -> Result<Vec<Lit>, NoMemory>
+    pub(crate) fn lits_at(&self, alloc: Global, node: u32) -> Result<Vec<Lit>, NoMemory>
         requires { node < length (board_of self.now).nodes }
         ensures { IfOk result (λ lits. lits_of (board_of self.now).nodes node ≡ Some lits.items) }
     {
