@@ -1,18 +1,19 @@
--- An event's move, of the cells.
-use Rattle.std.proofs.Common.{◌≡◌, ℕ, zero, suc, ◌+◌, ◌≤◌, Bool, true, false, List, [], ◌∷◌, ◌++◌, length, is_some, slice_get, slice_set, Option, Some, None, refl, sym, ap, subst, ◌∙◌, append_assoc, arith}
+-- With an event's move the cells stand for the nodes of the moved board.
+use Rattle.std.proofs.Common.{◌≡◌, ℕ, zero, suc, ◌+◌, ◌≤◌, List, [], ◌∷◌, ◌++◌, length, map, is_some, slice_get, slice_set, Option, Some, None, refl, sym, ap, subst, ◌∙◌, append_assoc, arith}
 use Rattle.std.proofs.lemmas.List.{length-append}
 use Rattle.std.proofs.lemmas.Option.{slice_get_past}
+use Rattle.mg_word.specs.Words.{numbered}
 use Rattle.mg_word.specs.declared.lit.Lit.{Lit}
+use Rattle.mg_meaning.specs.Folding.{Pair}
 use Rattle.case_split.specs.declared.child.Child.{Child}
 use Rattle.case_split.specs.declared.child.Closure.{Closure}
-use Rattle.case_split.specs.Splitting.{children_of as cases_of}
 use Rattle.tree_board.specs.declared.cell.Cell.{Cell}
 use Rattle.tree_board.specs.declared.cell.Settled.{Settled}
-use Rattle.tree_board.specs.declared.cell.Settled.TheVariants.{Open as OpenCell, Split as SplitCell, Rejected as RejectedCell, ByLemma as LemmaCell, AtOnce, Found as FoundCell, Covered as CoveredCell, Heavy as HeavyCell}
 use Rattle.tree_board.specs.declared.event.Event.{Event}
 use Rattle.tree_board.specs.declared.event.Event.TheVariants.{ByLemma, Covered as CoveredBy, Extend, Heavy as TooHeavy, Reject, Saturated}
-use Rattle.tree_board.specs.Boards.{Board, Kept, pair_at}
+use Rattle.tree_board.specs.Boards.{Board, Kept}
 use Rattle.tree_board.specs.Cells.{StandsForState, StandsFor, StandForNodes, parent_of}
+use Rattle.tree_board.specs.CellMoves.{settled_as, lemma_made, settled_cell, born_cell, place_after, cells_of_cases, with_closure, closures_of, cases_made}
 use Rattle.tree_board.specs.Children.{nodes_of_cases, node_of_case}
 use Rattle.tree_board.specs.Effects.{settled, born, moved}
 use Rattle.tree_board.specs.Events.{node_of}
@@ -21,32 +22,8 @@ use Rattle.tree_board.specs.NodeStates.{NodeState, Open, Split, Rejected, Settle
 use Rattle.tree_board.specs.Nodes.{Node}
 use Rattle.tree_board.specs.Readers.{own_number}
 use Rattle.tree_board.specs.Settings.{Setting}
-use Rattle.tree_board.proofs.Kept.{cell_at, own_past}
+use Rattle.tree_board.proofs.Kept.{cell_at, numbered-map, own_past}
 use Rattle.tree_board.proofs.Places.{get_left, get_right, length-slice_set, same_some}
-
--- ---- what the code makes
-
--- the cell of a child, whose reason to be closed at once goes to that place
-abbrev pub born_cell : ℕ → ℕ → Option Closure → Cell
-born_cell parent place None = record { parent = parent; settled = OpenCell; is_closed = false; own_lemma = None }
-born_cell parent place (Some closure) = record { parent = parent; settled = AtOnce place; is_closed = true; own_lemma = None }
-
-abbrev pub place_after : ℕ → Option Closure → ℕ
-place_after place None = place
-place_after place (Some closure) = suc place
-
-abbrev pub cells_of_cases : ℕ → ℕ → List Child → List Cell
-cells_of_cases parent place [] = []
-cells_of_cases parent place (one ∷ more) = born_cell parent place one.at_once ∷ cells_of_cases parent (place_after place one.at_once) more
-
-abbrev pub with_closure : Option Closure → List Closure → List Closure
-with_closure None closures = closures
-with_closure (Some closure) closures = closure ∷ closures
-
--- why the cases are closed that are closed at once
-abbrev pub closures_of : List Child → List Closure
-closures_of [] = []
-closures_of (one ∷ more) = with_closure one.at_once (closures_of more)
 
 -- ---- more events and reasons leave what stands standing
 
@@ -66,7 +43,7 @@ module _ (journal events : List Event) (closures more : List Closure) (kept : Li
   later_stand first [] (node ∷ nodes) stand = absurd stand
   later_stand first (cell ∷ cells) [] stand = absurd stand
   later_stand first (cell ∷ cells) (node ∷ nodes) (one, stand) =
-      (record { parent = one.parent; settled = later_state first cell.settled node.state one.settled; closed = one.closed; own = one.own }, later_stand (suc first) cells nodes stand)
+      (record { parent = one.parent; settled = later_state first cell.settled node.state one.settled; closed = one.closed; lemma = one.lemma; own = one.own }, later_stand (suc first) cells nodes stand)
 
 module _ (journal : List Event) (closures : List Closure) (kept : List Kept) where
   -- a cell and its node are set
@@ -106,35 +83,15 @@ born_stand journal kept parent above lits (one ∷ more) before first place is f
         → StandForNodes journal (before ++ with_closure at_once (closures_of more)) kept first
         (born_cell parent place at_once ∷ cells_of_cases parent (place_after place at_once) more)
         (node_of_case first (parent ∷ above) lits (record { lit = one.lit; barred = one.barred; at_once = at_once }) ∷ nodes_of_cases (suc first) (parent ∷ above) lits more)
-    by None rest = (record { parent = refl; settled = refl; closed = refl; own = sym (fresh first (omega arith)) }, rest before place is)
+    by None rest = (record { parent = refl; settled = refl; closed = refl; lemma = refl; own = sym (fresh first (omega arith)) }, rest before place is)
     by (Some closure) rest =
         let here : slice_get (before ++ closure ∷ closures_of more) place ≡ Some closure = get_right before (closure ∷ closures_of more) place 0 (omega (arith, is)) in
         let size : suc place ≡ length (before ++ closure ∷ []) = (let e = length-append before (closure ∷ []) in omega (arith, is, e)) in (
-          record { parent = refl; settled = (place, refl, here); closed = refl; own = sym (fresh first (omega arith)) },
+          record { parent = refl; settled = (place, refl, here); closed = refl; lemma = refl; own = sym (fresh first (omega arith)) },
           subst (λ all. StandForNodes journal all kept (suc first) (cells_of_cases parent (suc place) more) (nodes_of_cases (suc first) (parent ∷ above) lits more)) (append_assoc before (closure ∷ []) (closures_of more)) (rest (before ++ closure ∷ []) (suc place) size),
         )
 
 -- ---- the settled cell
-
--- what settles the cell, where the journal has so many events and the board so many nodes before
-abbrev pub settled_as : ℕ → ℕ → Event → Settled
-settled_as events nodes (Extend number inst) = SplitCell events nodes
-settled_as events nodes (Reject number inst) = RejectedCell events
-settled_as events nodes (ByLemma number lemma) = LemmaCell lemma
-settled_as events nodes (Saturated number) = FoundCell
-settled_as events nodes (CoveredBy number cover) = CoveredCell cover
-settled_as events nodes (TooHeavy number inst) = HeavyCell events
-
-abbrev pub closes : Event → Bool
-closes (Extend number inst) = false
-closes (Reject number inst) = true
-closes (ByLemma number lemma) = true
-closes (Saturated number) = false
-closes (CoveredBy number cover) = false
-closes (TooHeavy number inst) = false
-
-abbrev pub cell_after : ℕ → ℕ → Event → Cell → Cell
-cell_after events nodes event cell = record { parent = cell.parent; settled = settled_as events nodes event; is_closed = closes event; own_lemma = cell.own_lemma }
 
 module _ (journal : List Event) (closures : List Closure) (board : Board) where
   last_event : (event : Event) → slice_get (journal ++ event ∷ []) (length journal) ≡ Some event
@@ -156,37 +113,29 @@ module _ (journal : List Event) (closures : List Closure) (board : Board) where
   settled_path node (CoveredBy number cover) = refl
   settled_path node (TooHeavy number inst) = refl
 
-  -- of an event by a kept lemma, that lemma is there
-  closes_same : (node : Node) (event : Event) → node.own ≡ None → ((number lemma : ℕ) → event ≡ ByLemma number lemma → is_some (pair_at board.kept lemma) ≡ true) → closes event ≡ is_some (settled board node event).own
-  closes_same node (Extend number inst) none there = sym (ap is_some none)
-  closes_same node (Reject number inst) none there = refl
-  closes_same node (ByLemma number lemma) none there = sym (there number lemma refl)
-  closes_same node (Saturated number) none there = sym (ap is_some none)
-  closes_same node (CoveredBy number cover) none there = sym (ap is_some none)
-  closes_same node (TooHeavy number inst) none there = sym (ap is_some none)
+  -- of a node without a lemma, the lemma is that of the event
+  lemma_same : (lemmas : List Pair) → lemmas ≡ map (λ (one : Kept). one.pair) board.kept → (node : Node) (event : Event) → node.own ≡ None → lemma_made lemmas event ≡ (settled board node event).own
+  lemma_same lemmas pairs node (Extend number inst) none = sym none
+  lemma_same lemmas pairs node (Reject number inst) none = refl
+  lemma_same lemmas pairs node (ByLemma number lemma) none = ap (λ all. numbered all lemma) pairs ∙ numbered-map (λ (one : Kept). one.pair) board.kept lemma
+  lemma_same lemmas pairs node (Saturated number) none = sym none
+  lemma_same lemmas pairs node (CoveredBy number cover) none = sym none
+  lemma_same lemmas pairs node (TooHeavy number inst) none = sym none
 
   -- the cell that stands for a node, settled, stands for the settled node
-  pub settled_stands : (kept : List Kept) (cell : Cell) (node : Node) (event : Event) → cell.parent ≡ parent_of node.path → cell.own_lemma ≡ own_number kept (node_of event)
-      → node.own ≡ None → ((number lemma : ℕ) → event ≡ ByLemma number lemma → is_some (pair_at board.kept lemma) ≡ true)
-      → StandsFor (journal ++ event ∷ []) closures kept (node_of event) (cell_after (length journal) (length board.nodes) event cell) (settled board node event)
-  settled_stands kept cell node event parent own none there = record {
+  pub settled_stands : (lemmas : List Pair) → lemmas ≡ map (λ (one : Kept). one.pair) board.kept → (cell : Cell) (node : Node) (event : Event) → cell.parent ≡ parent_of node.path → cell.own_lemma ≡ own_number board.kept (node_of event) → node.own ≡ None
+      → StandsFor (journal ++ event ∷ []) closures board.kept (node_of event) (settled_cell (settled_as (length journal) (length board.nodes) event) (lemma_made lemmas event) cell) (settled board node event)
+  settled_stands lemmas pairs cell node event parent own none = record {
     parent = parent ∙ ap parent_of (sym (settled_path node event));
     settled = settled_state node event;
-    closed = closes_same node event none there;
+    closed = ap is_some (lemma_same lemmas pairs node event none);
+    lemma = lemma_same lemmas pairs node event none;
     own = own;
   }
 
 -- ---- the whole move
 
-abbrev pub cases_made : Node → Event → List Child
-cases_made node (Extend number inst) = cases_of node.lits node.barred inst.conclusions
-cases_made node (Reject number inst) = []
-cases_made node (ByLemma number lemma) = []
-cases_made node (Saturated number) = []
-cases_made node (CoveredBy number cover) = []
-cases_made node (TooHeavy number inst) = []
-
-born_are : (board : Board) (node : Node) (event : Event) → nodes_of_cases (length board.nodes) node.path node.lits (cases_made node event) ≡ born board node event
+born_are : (board : Board) (node : Node) (event : Event) → nodes_of_cases (length board.nodes) node.path node.lits (cases_made node.lits node.barred event) ≡ born board node event
 born_are board node (Extend number inst) = refl
 born_are board node (Reject number inst) = refl
 born_are board node (ByLemma number lemma) = refl
@@ -195,27 +144,28 @@ born_are board node (CoveredBy number cover) = refl
 born_are board node (TooHeavy number inst) = refl
 
 -- with its cell settled and the cells of its children added, the cells stand for the nodes of the move
-pub moved_stand : (setting : Setting) (board : Board) → IsBoard setting board → (journal : List Event) (closures : List Closure) (cells : List Cell) → StandForNodes journal closures board.kept 0 cells board.nodes
-    → (node : Node) (event : Event) → slice_get board.nodes (node_of event) ≡ Some node → node.own ≡ None → ((number lemma : ℕ) → event ≡ ByLemma number lemma → is_some (pair_at board.kept lemma) ≡ true)
-    → (cell : Cell) → slice_get cells (node_of event) ≡ Some cell
-    → StandForNodes (journal ++ event ∷ []) (closures ++ closures_of (cases_made node event)) board.kept 0
-    (slice_set cells (node_of event) (cell_after (length journal) (length board.nodes) event cell) ++ cells_of_cases (node_of event) (length closures) (cases_made node event))
+pub moved_stand : (setting : Setting) (board : Board) → IsBoard setting board → (journal : List Event) (closures : List Closure) (lemmas : List Pair) → lemmas ≡ map (λ (one : Kept). one.pair) board.kept
+    → (cells : List Cell) → StandForNodes journal closures board.kept 0 cells board.nodes → (node : Node) (event : Event) → slice_get board.nodes (node_of event) ≡ Some node → node.own ≡ None → (cell : Cell) → slice_get cells (node_of event) ≡ Some cell
+    → StandForNodes (journal ++ event ∷ []) (closures ++ closures_of (cases_made node.lits node.barred event)) board.kept 0
+    (slice_set cells (node_of event) (settled_cell (settled_as (length journal) (length board.nodes) event) (lemma_made lemmas event) cell) ++ cells_of_cases (node_of event) (length closures) (cases_made node.lits node.barred event))
     (moved board node event).nodes
-moved_stand setting board facts journal closures cells stand node event at unclosed there cell is =
+moved_stand setting board facts journal closures lemmas pairs cells stand node event at unclosed cell is =
     let own = facts.each (node_of event) node at in
+    let cases : List Child = cases_made node.lits node.barred event in
+    let after : Cell = settled_cell (settled_as (length journal) (length board.nodes) event) (lemma_made lemmas event) cell in
     let (found, found_is, stands) = cell_at journal closures board.kept 0 cells board.nodes stand (node_of event) node at in
     let same : found ≡ cell = same_some found cell (sym found_is ∙ is) in
     let number : 0 + node_of event ≡ node_of event = omega arith in
-    let after = settled_stands journal (closures ++ closures_of (cases_made node event)) board board.kept cell node event
-    (ap (λ (one : Cell). one.parent) (sym same) ∙ stands.parent) (ap (λ (one : Cell). one.own_lemma) (sym same) ∙ (stands.own ∙ ap (own_number board.kept) number)) unclosed there in
-    let later = later_stand journal (event ∷ []) closures (closures_of (cases_made node event)) board.kept 0 cells board.nodes stand in
-    let changed = set_stand (journal ++ event ∷ []) (closures ++ closures_of (cases_made node event)) board.kept 0 cells board.nodes later (node_of event) (cell_after (length journal) (length board.nodes) event cell) (settled board node event)
-    (subst (λ n. StandsFor (journal ++ event ∷ []) (closures ++ closures_of (cases_made node event)) board.kept n (cell_after (length journal) (length board.nodes) event cell) (settled board node event)) (sym number) after) in
-    let children = born_stand (journal ++ event ∷ []) board.kept (node_of event) own.above node.lits (cases_made node event) closures (length board.nodes) (length closures) refl
+    let here = settled_stands journal (closures ++ closures_of cases) board lemmas pairs cell node event
+    (ap (λ (one : Cell). one.parent) (sym same) ∙ stands.parent) (ap (λ (one : Cell). one.own_lemma) (sym same) ∙ (stands.own ∙ ap (own_number board.kept) number)) unclosed in
+    let later = later_stand journal (event ∷ []) closures (closures_of cases) board.kept 0 cells board.nodes stand in
+    let changed = set_stand (journal ++ event ∷ []) (closures ++ closures_of cases) board.kept 0 cells board.nodes later (node_of event) after (settled board node event)
+    (subst (λ n. StandsFor (journal ++ event ∷ []) (closures ++ closures_of cases) board.kept n after (settled board node event)) (sym number) here) in
+    let children = born_stand (journal ++ event ∷ []) board.kept (node_of event) own.above node.lits cases closures (length board.nodes) (length closures) refl
     (λ k from. own_past setting board facts k (slice_get_past board.nodes k from)) in
     let size : length board.nodes ≡ 0 + length (slice_set board.nodes (node_of event) (settled board node event)) = (let e = length-slice_set board.nodes (node_of event) (settled board node event) in omega (arith, e)) in
-    let placed = subst (λ path. StandForNodes (journal ++ event ∷ []) (closures ++ closures_of (cases_made node event)) board.kept (length board.nodes) (cells_of_cases (node_of event) (length closures) (cases_made node event)) (nodes_of_cases (length board.nodes) path node.lits (cases_made node event))) (sym own.path) children in
-    let made = subst (λ nodes. StandForNodes (journal ++ event ∷ []) (closures ++ closures_of (cases_made node event)) board.kept (length board.nodes) (cells_of_cases (node_of event) (length closures) (cases_made node event)) nodes) (born_are board node event) placed in
-    joined_stand (journal ++ event ∷ []) (closures ++ closures_of (cases_made node event)) board.kept 0 (slice_set cells (node_of event) (cell_after (length journal) (length board.nodes) event cell)) (slice_set board.nodes (node_of event) (settled board node event)) changed
-    (cells_of_cases (node_of event) (length closures) (cases_made node event)) (born board node event)
-    (subst (λ n. StandForNodes (journal ++ event ∷ []) (closures ++ closures_of (cases_made node event)) board.kept n (cells_of_cases (node_of event) (length closures) (cases_made node event)) (born board node event)) size made)
+    let placed = subst (λ path. StandForNodes (journal ++ event ∷ []) (closures ++ closures_of cases) board.kept (length board.nodes) (cells_of_cases (node_of event) (length closures) cases) (nodes_of_cases (length board.nodes) path node.lits cases)) (sym own.path) children in
+    let made = subst (λ nodes. StandForNodes (journal ++ event ∷ []) (closures ++ closures_of cases) board.kept (length board.nodes) (cells_of_cases (node_of event) (length closures) cases) nodes) (born_are board node event) placed in
+    joined_stand (journal ++ event ∷ []) (closures ++ closures_of cases) board.kept 0 (slice_set cells (node_of event) after) (slice_set board.nodes (node_of event) (settled board node event)) changed
+    (cells_of_cases (node_of event) (length closures) cases) (born board node event)
+    (subst (λ n. StandForNodes (journal ++ event ∷ []) (closures ++ closures_of cases) board.kept n (cells_of_cases (node_of event) (length closures) cases) (born board node event)) size made)

@@ -32,7 +32,7 @@ use Rattle.tree_board.proofs.Replays.{replay_board}
 -- ---- lists of lemmas, and their parts
 
 module _ {X Y : Type 0} (f : X → Y) where
-  numbered-map : (xs : List X) (number : ℕ) → numbered (map f xs) number ≡ option_map f (numbered xs number)
+  pub numbered-map : (xs : List X) (number : ℕ) → numbered (map f xs) number ≡ option_map f (numbered xs number)
   numbered-map xs zero = refl
   numbered-map xs (suc index) = slice_get-map f xs index
 

@@ -38,6 +38,7 @@ pub record StandsFor (journal : List Event) (closures : List Closure) (kept : Li
   pub parent : cell.parent ≡ parent_of node.path
   pub settled : StandsForState journal closures number cell.settled node.state
   pub closed : cell.is_closed ≡ is_some node.own
+  pub lemma : cell.lemma ≡ node.own
   pub own : cell.own_lemma ≡ own_number kept number
 
 -- a cell for each node, numbered from there

@@ -1,5 +1,5 @@
 -- What the fields of a board keep.
-use Rattle.std.specs.Prelude.{◌≡◌, ◌≤◌, ℕ, List}
+use Rattle.std.specs.Prelude.{◌≡◌, ◌≤◌, ℕ, List, length}
 use Rattle.mg_word.specs.Facts.{IsProblem}
 use Rattle.mg_meaning.specs.Folding.{Pair}
 use Rattle.case_split.specs.declared.child.Closure.{Closure}
@@ -18,3 +18,4 @@ pub record IsKeeping (search : Search) (cells : List Cell) (closures : List Clos
   pub lawful : AreLawful (setting_of search) opening search.journal
   pub stand : StandForBoard search.journal (board_of search) cells closures lemmas lemma_nodes
   pub count : extends ≡ count (board_of search)
+  pub few : length closures ≤ length cells

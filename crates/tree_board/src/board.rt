@@ -86,6 +86,7 @@ impl Board {
             parent: 0,
             settled: Settled::Open,
             is_closed: false,
+            lemma: None,
             own_lemma: None,
         })?;
         Ok(Board {

@@ -6,6 +6,7 @@ ghost use Rattle.tree_board.specs.Readers.{event_of_cell, first_child_of_cell, l
 ghost use Rattle.tree_board.specs.CellStanding.{is_open_yet, is_found_set, is_too_heavy};
 
 use crate::{Event, NodeKind};
+use branch_lemmas::Lemma;
 use case_split::Closure;
 use mg_word::{Inst, Lit};
 
@@ -23,12 +24,14 @@ pub enum Settled {
 }
 
 /// A node.
-#[derive(Clone, Copy, Debug)]
+#[derive(Debug, Drop)]
 pub struct Cell {
     /// The number of its parent, and 0 for the root.
     pub parent: u32,
     pub settled: Settled,
     pub is_closed: bool,
+    /// Its lemma, where it is closed.
+    pub lemma: Option<Lemma>,
     /// The number of its own lemma, where that is kept.
     pub own_lemma: Option<u32>,
 }
