@@ -135,7 +135,7 @@ module _ (journal : List Event) (closures : List Closure) (board : Board) where
 
 -- ---- the whole move
 
-born_are : (board : Board) (node : Node) (event : Event) → nodes_of_cases (length board.nodes) node.path node.lits (cases_made node.lits node.barred event) ≡ born board node event
+pub born_are : (board : Board) (node : Node) (event : Event) → nodes_of_cases (length board.nodes) node.path node.lits (cases_made node.lits node.barred event) ≡ born board node event
 born_are board node (Extend number inst) = refl
 born_are board node (Reject number inst) = refl
 born_are board node (ByLemma number lemma) = refl

@@ -46,7 +46,7 @@ effect_journal setting board event lawful =
     ap (λ (one : Board). one.journal) (effect_is setting board event lawful.node lawful.is)
     ∙ climb_keeps setting (λ one. one.journal ≡ board.journal ++ event ∷ []) (λ number one same. closed_at_journal setting number (board.journal ++ event ∷ []) one same) lawful.node.path (moved board lawful.node event) refl
 
-events_kept : (setting : Setting) (events : List Event) (board : Board) → AreLawful setting board events → (replay_from setting board events).journal ≡ board.journal ++ events
+pub events_kept : (setting : Setting) (events : List Event) (board : Board) → AreLawful setting board events → (replay_from setting board events).journal ≡ board.journal ++ events
 unfolding replay_from
 events_kept setting [] board lawful = sym (none_after board.journal)
   where

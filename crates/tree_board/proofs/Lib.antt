@@ -31,6 +31,12 @@ pub mod Budgets
 pub mod Kept
 pub mod Ways
 pub mod CellMoves
+pub mod KeptNumbers
+pub mod CaseCells
+pub mod CellClosings
+pub mod CellClimbing
+pub mod EventKeeping
+pub mod EventSeen
 pub mod FirstLemma
 pub mod Lightness
 pub mod BarredWays

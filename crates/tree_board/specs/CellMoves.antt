@@ -7,6 +7,9 @@ use Rattle.case_split.specs.declared.child.Child.{Child}
 use Rattle.case_split.specs.declared.child.Closure.{Closure}
 use Rattle.case_split.specs.Splitting.{children_of as cases_of}
 use Rattle.branch_lemmas.specs.Leaves.{lemma_of}
+use Rattle.tree_board.specs.Boards.{Board}
+use Rattle.tree_board.specs.Events.{node_of}
+use Rattle.tree_board.specs.Nodes.{Node}
 use Rattle.tree_board.specs.declared.cell.Cell.{Cell}
 use Rattle.tree_board.specs.declared.cell.Settled.{Settled}
 use Rattle.tree_board.specs.declared.cell.Settled.TheVariants.{Open as OpenCell, Split as SplitCell, Rejected as RejectedCell, ByLemma as LemmaCell, AtOnce, Found as FoundCell, Covered as CoveredCell, Heavy as HeavyCell}
@@ -73,3 +76,7 @@ cases_made lits barred (ByLemma number lemma) = []
 cases_made lits barred (Saturated number) = []
 cases_made lits barred (CoveredBy number cover) = []
 cases_made lits barred (TooHeavy number inst) = []
+
+-- the cases that the event makes at its node
+abbrev pub AreCases : Board → Event → List Child → Type 0
+AreCases board event cases = (node : Node) → slice_get board.nodes (node_of event) ≡ Some node → cases ≡ cases_made node.lits node.barred event

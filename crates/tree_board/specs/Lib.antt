@@ -2,6 +2,7 @@ pub mod Alone
 pub mod Boards
 pub mod CellStanding
 pub mod Cells
+pub mod CellClimbs
 pub mod CellMoves
 pub mod Children
 pub mod Closings

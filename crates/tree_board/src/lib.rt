@@ -5,6 +5,8 @@ mod alone;
 mod barring;
 mod board;
 mod cell;
+mod cell_climb;
+mod cell_moves;
 mod event;
 mod growing;
 mod laws;
