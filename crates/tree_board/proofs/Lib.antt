@@ -41,3 +41,4 @@ pub mod FirstLemma
 pub mod Lightness
 pub mod BarredWays
 pub mod QuickSettling
+pub mod AloneLaws

@@ -96,7 +96,7 @@ passing_place test (first ∷ nodes) (suc k) node at passes = by (test first) (p
     by true less = omega arith
     by false less = omega (arith, less)
 
-none_passes : (test : Node → Bool) (nodes : List Node) → position test nodes ≡ None → (k : ℕ) (node : Node) → slice_get nodes k ≡ Some node → test node ≡ false
+pub none_passes : (test : Node → Bool) (nodes : List Node) → position test nodes ≡ None → (k : ℕ) (node : Node) → slice_get nodes k ≡ Some node → test node ≡ false
 none_passes test nodes none k node at = by (test node) refl
   where
     by : (t : Bool) → test node ≡ t → t ≡ false

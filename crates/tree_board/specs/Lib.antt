@@ -32,3 +32,4 @@ pub mod WorkerLaws
 pub mod Lightness
 pub mod Barring
 pub mod Quick
+pub mod AloneLaws

@@ -1,5 +1,6 @@
 //! The laws of boards: each function states one as its contract and does nothing.
 
+ghost use Rattle.tree_board.specs.AloneLaws.{OneWorkerIsAlone, LeftBoardGivesUp};
 ghost use Rattle.tree_board.specs.FirstOpen.{WalkFindsFirst};
 ghost use Rattle.tree_board.specs.Laws.{ReplaysAreBoards, NoMinimalIsLost, CompleteCovers, CountIsSplits, OneIsLawful, EachPassesLive, DeadIsClosed, RefuteIsNeverComplete, OpenIsDue, BoardsAreBounded, TreeOrderIsPreorder, BoardIsItsJournal};
 ghost use Rattle.tree_board.specs.Lightness.{LiteralsAreLight};
@@ -111,4 +112,14 @@ pub fn open_nodes_are_listed()
 /// The literals of each node weigh at most the limit.
 pub fn literals_are_light()
     ensures { LiteralsAreLight }
+{}
+
+/// Where the plain tree fits the limits, the journal of one worker in mode Refute is the one at first open nodes.
+pub fn one_worker_is_alone()
+    ensures { OneWorkerIsAlone }
+{}
+
+/// A board at which one worker leaves off in mode Refute has ended, or is given up at a limit with no found set.
+pub fn left_board_gives_up()
+    ensures { LeftBoardGivesUp }
 {}
