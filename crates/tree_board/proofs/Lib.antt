@@ -42,3 +42,12 @@ pub mod Lightness
 pub mod BarredWays
 pub mod QuickSettling
 pub mod AloneLaws
+pub mod Listed
+pub mod Bare
+pub mod Ending
+pub mod Steps
+pub mod Going
+pub mod Workings
+pub mod NodeBranches
+pub mod Pushing
+pub mod Walks

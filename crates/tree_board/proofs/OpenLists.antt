@@ -83,7 +83,7 @@ unfolding opens_from
 opens_step nodes fuel number node at = ap (opens_at (λ n. opens_from nodes fuel n) number) at
 
 -- more fuel changes nothing
-enough : (setting : Setting) (board : Board) → IsBoard setting board → (f g number : ℕ) → length board.nodes ≤ number + f → length board.nodes ≤ number + g → (node : Node) → slice_get board.nodes number ≡ Some node → opens_from board.nodes f number ≡ opens_from board.nodes g number
+pub enough : (setting : Setting) (board : Board) → IsBoard setting board → (f g number : ℕ) → length board.nodes ≤ number + f → length board.nodes ≤ number + g → (node : Node) → slice_get board.nodes number ≡ Some node → opens_from board.nodes f number ≡ opens_from board.nodes g number
 enough setting board facts zero g number far further node at = absurd (let small = within board.nodes number node at in omega (arith, far, small))
 enough setting board facts (suc f) zero number far further node at = absurd (let small = within board.nodes number node at in omega (arith, further, small))
 enough setting board facts (suc f) (suc g) number far further node at =

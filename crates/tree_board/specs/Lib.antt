@@ -33,3 +33,5 @@ pub mod Lightness
 pub mod Barring
 pub mod Quick
 pub mod AloneLaws
+pub mod Workers
+pub mod Working

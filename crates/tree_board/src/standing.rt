@@ -6,7 +6,7 @@ ghost use Rattle.tree_board.specs.CellStanding.{is_root_closed, first_found_in, 
 use crate::cell::Cell;
 use crate::{BoardState, Limit, Mode};
 
-fn is_root_closed(cells: &[Cell]) -> bool
+pub fn is_root_closed(cells: &[Cell]) -> bool
     ensures { result ≡ is_root_closed cells.now }
 {
     match cells {
