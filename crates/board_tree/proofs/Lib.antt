@@ -1,1 +1,4 @@
-
+pub mod Uses
+pub mod Trees
+pub mod Accepting
+pub mod Wording

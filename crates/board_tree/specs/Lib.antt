@@ -1,3 +1,4 @@
 pub mod Documents
+pub mod Laws
 pub mod Lines
 pub mod Used

@@ -8,7 +8,9 @@ ghost use Rattle.tree_checker.specs.Docs.{IsWellFormed, Accepts};
 ghost use Rattle.board_tree.specs.Documents.{doc_of};
 ghost use Rattle.board_tree.specs.declared.TreeRefusal.TheVariants.{NotClosed};
 
-use mg_word::NoMemory;
+mod laws;
+
+pub use laws::closed_board_is_accepted;
 use std::alloc::Global;
 use tree_board::{Board, BoardState};
 use tree_checker::Doc;
