@@ -20,13 +20,16 @@ use Rattle.tree_board.specs.Facts.{IsAmong, IsBoard}
 use Rattle.tree_board.specs.Lawful.{IsReplay}
 use Rattle.tree_board.specs.NodeStates.{Settled}
 use Rattle.tree_board.specs.Nodes.{Node}
+use Rattle.tree_board.specs.Searches.{Search, setting_of, board_of}
 use Rattle.tree_board.specs.Settings.{Setting}
 use Rattle.tree_board.proofs.Covering.{closed_some}
 use Rattle.tree_board.proofs.Places.{same_some}
 use Rattle.tree_board.proofs.Replays.{replay_board}
 use Rattle.board_tree.specs.Documents.{block_of, doc_of}
 use Rattle.board_tree.specs.Lines.{used_number, name_of, lines_of}
+use Rattle.board_tree.specs.Refuted.{IsRefuted}
 use Rattle.board_tree.specs.Used.{is_used, new_number, used_from}
+use Rattle.board_tree.proofs.Names.{none_is, IsNamed, named_from}
 use Rattle.board_tree.proofs.Trees.{top_closes}
 use Rattle.board_tree.proofs.Uses.{settled_used, new_number_rises, used_stands, used_comes, ComesFrom}
 
@@ -37,42 +40,8 @@ module _ {X : Type 0} where
   get_take (item ∷ items) (suc count) zero less = refl
   get_take (item ∷ items) (suc count) (suc index) less = get_take items count index (omega (arith, less))
 
-none_is : {X : Type 0} (item : X) → None ≡ Some item → ⊥
-none_is item e = cc
-
--- a node's own lemma, which is used, by its new number
-pub record IsNamed (board : Board) (number new : ℕ) : Type 0 where
-  pub lemma : ℕ
-  pub one : Kept
-  pub at : numbered board.kept lemma ≡ Some one
-  pub node : one.node ≡ number
-  pub used : is_used board.nodes lemma ≡ true
-  pub is : new_number board.nodes lemma ≡ new
-
-pub named_from : (board : Board) (number new : ℕ) → name_of board number ≡ Some new → IsNamed board number new
-named_from board number new named = by (position (λ (one : Kept). nat_eq one.node number) board.kept) refl named
-  where
-    used_by : (index : ℕ) → position (λ (one : Kept). nat_eq one.node number) board.kept ≡ Some index → (test : Bool) → is_used board.nodes (suc index) ≡ test → (if test then Some (new_number board.nodes (suc index)) else None) ≡ Some new → IsNamed board number new
-    used_by index found false unused bad = absurd (none_is new bad)
-    used_by index found true used same =
-        let blank : Kept = record { node = 0; pair = record { inside = []; outside = [] } } in
-        let (small, passes, before) = position-Some (λ (one : Kept). nat_eq one.node number) board.kept index blank found in
-        let one : Kept = get_or board.kept index blank in
-        record {
-          lemma = suc index;
-          one = one;
-          at = slice_get-get_or board.kept index blank small;
-          node = eqb-true one.node number passes;
-          used = used;
-          is = same_some (new_number board.nodes (suc index)) new same;
-        }
-
-    by : (found : Option ℕ) → position (λ (one : Kept). nat_eq one.node number) board.kept ≡ found → used_number board.nodes (option_map (λ index. suc index) found) ≡ Some new → IsNamed board number new
-    by None found bad = absurd (none_is new bad)
-    by (Some index) found same = used_by index found (is_used board.nodes (suc index)) refl same
-
 -- the lemma with a pair is kept with it
-kept_with_pair : (kept : List Kept) (lemma : ℕ) (pair : Pair) → pair_at kept lemma ≡ Some pair → (one : Kept) × (numbered kept lemma ≡ Some one) × (one.pair ≡ pair)
+pub kept_with_pair : (kept : List Kept) (lemma : ℕ) (pair : Pair) → pair_at kept lemma ≡ Some pair → (one : Kept) × (numbered kept lemma ≡ Some one) × (one.pair ≡ pair)
 kept_with_pair kept lemma pair has = by (numbered kept lemma) refl has
   where
     by : (found : Option Kept) → numbered kept lemma ≡ found → option_map (λ (one : Kept). one.pair) found ≡ Some pair → (one : Kept) × (numbered kept lemma ≡ Some one) × (one.pair ≡ pair)
@@ -171,5 +140,5 @@ module _ (setting : Setting) (board : Board) (facts : IsBoard setting board) whe
   pub doc_accepted : is_closed board 0 ≡ true → Accepts setting.problem (doc_of board)
   doc_accepted closed = record { blocks = λ place block small at. block_closes place block at; root = root_closes closed }
 
-pub closed_is_accepted : (setting : Setting) (board : Board) → IsProblem setting.problem → IsReplay setting board → is_closed board 0 ≡ true → Accepts setting.problem (doc_of board)
-closed_is_accepted setting board real replay closed = doc_accepted setting board (replay_board setting board real replay) closed
+pub closed_is_accepted : (search : Search) → IsRefuted search → Accepts search.problem (doc_of (board_of search))
+closed_is_accepted search is = doc_accepted (setting_of search) (board_of search) (replay_board (setting_of search) (board_of search) is.problem is.replay) is.closed

@@ -1,4 +1,5 @@
 pub mod Documents
 pub mod Laws
 pub mod Lines
+pub mod Refuted
 pub mod Used

@@ -10,7 +10,7 @@ ghost use Rattle.board_tree.specs.declared.TreeRefusal.TheVariants.{NotClosed};
 
 mod laws;
 
-pub use laws::closed_board_is_accepted;
+pub use laws::{closed_board_is_accepted, closed_board_is_well_formed};
 use std::alloc::Global;
 use tree_board::{Board, BoardState};
 use tree_checker::Doc;
