@@ -1,11 +1,7 @@
 -- The document of a closed board is accepted.
-use Rattle.std.proofs.Common.{◌≡◌, ℕ, zero, suc, ◌+◌, ◌<◌, ◌≤◌, Bool, true, false, if◌then◌else◌, nat_eq, List, [], ◌∷◌, map, take, length, get_or, slice_get, Option, Some, None, option_map, refl, sym, ap, subst, ◌∙◌, inl, arith}
-use Rattle.std.specs.List.{position}
-use Rattle.std.proofs.lemmas.Bool.{eqb-true}
+use Rattle.std.proofs.Common.{◌≡◌, ℕ, zero, suc, ◌+◌, ◌<◌, ◌≤◌, true, List, [], ◌∷◌, map, take, length, slice_get, Option, Some, None, option_map, refl, sym, ap, subst, ◌∙◌, inl, arith}
 use Rattle.std.proofs.lemmas.List.{take_all}
-use Rattle.std.proofs.lemmas.List.Quantifiers.{position-Some}
-use Rattle.std.proofs.lemmas.Option.{slice_get-map, slice_get-get_or, slice_get_within}
-use Rattle.mg_word.specs.Facts.{IsProblem}
+use Rattle.std.proofs.lemmas.Option.{slice_get-map, slice_get_within}
 use Rattle.mg_word.specs.Sets.{is_part}
 use Rattle.mg_word.specs.Words.{numbered}
 use Rattle.mg_meaning.specs.Folding.{Pair}
@@ -17,7 +13,6 @@ use Rattle.tree_checker.specs.declared.doc.LemmaBlock.{LemmaBlock}
 use Rattle.tree_checker.proofs.Larger.{Closes-larger}
 use Rattle.tree_board.specs.Boards.{Board, Kept, own_of, pair_at, is_closed}
 use Rattle.tree_board.specs.Facts.{IsAmong, IsBoard}
-use Rattle.tree_board.specs.Lawful.{IsReplay}
 use Rattle.tree_board.specs.NodeStates.{Settled}
 use Rattle.tree_board.specs.Nodes.{Node}
 use Rattle.tree_board.specs.Searches.{Search, setting_of, board_of}
@@ -26,10 +21,10 @@ use Rattle.tree_board.proofs.Covering.{closed_some}
 use Rattle.tree_board.proofs.Places.{same_some}
 use Rattle.tree_board.proofs.Replays.{replay_board}
 use Rattle.board_tree.specs.Documents.{block_of, doc_of}
-use Rattle.board_tree.specs.Lines.{used_number, name_of, lines_of}
+use Rattle.board_tree.specs.Lines.{lines_of}
 use Rattle.board_tree.specs.Refuted.{IsRefuted}
 use Rattle.board_tree.specs.Used.{is_used, new_number, used_from}
-use Rattle.board_tree.proofs.Names.{none_is, IsNamed, named_from}
+use Rattle.board_tree.proofs.OwnNames.{none_is, IsNamed, named_from}
 use Rattle.board_tree.proofs.Trees.{top_closes}
 use Rattle.board_tree.proofs.Uses.{settled_used, new_number_rises, used_stands, used_comes, ComesFrom}
 

@@ -1,10 +1,9 @@
 -- The document of a closed board is one of its problem.
-use Rattle.std.proofs.Common.{◌≡◌, ℕ, zero, suc, ◌+◌, ◌*◌, ◌^◌, ◌<◌, ◌≤◌, Bool, true, false, if◌then◌else◌, List, [], ◌∷◌, ◌++◌, All, IsSome, map, take, length, get_or, slice_get, Option, Some, None, option_map, refl, sym, ap, subst, ◌∙◌, arith}
+use Rattle.std.proofs.Common.{◌≡◌, ℕ, zero, suc, ◌+◌, ◌*◌, ◌<◌, ◌≤◌, Bool, true, false, if◌then◌else◌, List, [], ◌∷◌, ◌++◌, All, IsSome, map, take, length, get_or, slice_get, Option, Some, None, option_map, refl, sym, subst, ◌∙◌, arith}
 use Rattle.std.specs.List.{flat_map}
 use Rattle.std.proofs.lemmas.List.Elements.{All-nil, All-cons, All-append}
 use Rattle.std.proofs.lemmas.List.{length-map}
 use Rattle.std.proofs.lemmas.Option.{slice_get-map, slice_get-get_or, slice_get_within}
-use Rattle.mg_word.specs.Facts.{ProblemData}
 use Rattle.mg_word.specs.Sets.{is_rising}
 use Rattle.mg_word.specs.Table.{Symbol}
 use Rattle.mg_word.specs.Words.{numbered}
@@ -16,9 +15,7 @@ use Rattle.mg_meaning.specs.Folding.{Pair, insides, outsides}
 use Rattle.mg_meaning.specs.Instances.{IsInstance}
 use Rattle.mg_meaning.specs.Violation.{IsLeast}
 use Rattle.mg_meaning.proofs.Excluded.{violated_parts}
-use Rattle.case_split.specs.declared.child.Closure.{Closure}
 use Rattle.case_split.specs.declared.child.Closure.TheVariants.{Clash as ClashAtOnce, Barred as BarredAtOnce}
-use Rattle.branch_lemmas.specs.declared.index.TheConstants.{MOST_LEMMAS}
 use Rattle.term_text.specs.Words.{IsWordOf}
 use Rattle.tree_checker.specs.Closing.{Closes}
 use Rattle.tree_checker.specs.Docs.{LineFits, IsKnown, AreLines, IsBlock, lemmas_of, branch_of, lines_before, IsWellFormed}
@@ -44,7 +41,7 @@ use Rattle.board_tree.specs.Refuted.{IsRefuted}
 use Rattle.board_tree.specs.Used.{is_used, new_number, used_from}
 use Rattle.board_tree.proofs.Accepting.{kept_with_pair, closed_is_accepted}
 use Rattle.board_tree.proofs.Keeping.{few_kept}
-use Rattle.board_tree.proofs.Names.{none_is, named_from}
+use Rattle.board_tree.proofs.OwnNames.{none_is, named_from}
 use Rattle.board_tree.proofs.Sizes.{tree_lines}
 use Rattle.board_tree.proofs.Uses.{used_comes}
 use Rattle.board_tree.proofs.Wording.{HasShortWords, all_held, subst_words, node_word, barred_word}

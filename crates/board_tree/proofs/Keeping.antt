@@ -1,5 +1,5 @@
 -- How many lemmas a board keeps.
-use Rattle.std.proofs.Common.{◌≡◌, ℕ, suc, ◌+◌, ◌<◌, ◌≤◌, Bool, true, false, not, ◌&&◌, nat_eq, nat_lt, nat_le, List, [], ◌∷◌, ◌++◌, length, slice_get, Option, Some, None, refl, sym, ap, subst, ◌∙◌, arith}
+use Rattle.std.proofs.Common.{◌≡◌, ℕ, ◌+◌, ◌≤◌, Bool, true, false, not, ◌&&◌, nat_eq, nat_lt, nat_le, List, [], ◌∷◌, length, slice_get, Option, Some, None, refl, sym, subst, arith}
 use Rattle.std.proofs.lemmas.Bool.{ltb-true}
 use Rattle.std.proofs.lemmas.List.{length-append}
 use Rattle.mg_word.proofs.Members.{both_true}
@@ -8,7 +8,6 @@ use Rattle.branch_lemmas.specs.declared.index.TheConstants.{MOST_LEMMAS, MOST_LI
 use Rattle.tree_board.specs.Boards.{Board, Kept, opening}
 use Rattle.tree_board.specs.Closings.{due, kept_with, closed_by, closed_node, closed_at}
 use Rattle.tree_board.specs.Effects.{moved, effect}
-use Rattle.tree_board.specs.Events.{node_of}
 use Rattle.tree_board.specs.Lawful.{IsLawful, IsReplay}
 use Rattle.tree_board.specs.Nodes.{Node}
 use Rattle.tree_board.specs.Searches.{Search, setting_of, board_of}

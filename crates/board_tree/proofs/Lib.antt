@@ -3,6 +3,9 @@ pub mod Trees
 pub mod Accepting
 pub mod Wording
 pub mod Sizes
-pub mod Names
+pub mod OwnNames
 pub mod Keeping
 pub mod Forming
+pub mod Tabled
+pub mod Written
+pub mod Listed

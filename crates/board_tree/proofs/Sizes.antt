@@ -1,21 +1,20 @@
 -- A tree has no more lines than the board has nodes.
-use Rattle.std.proofs.Common.{◌≡◌, ◌≢◌, ℕ, zero, suc, ◌+◌, ◌<◌, ◌≤◌, Bool, true, false, true≢false, nat_eq, List, [], ◌∷◌, ◌++◌, drop, reverse, length, slice_get, Option, Some, None, refl, sym, ap, ap₂, ◌⊎◌, subst, ◌∙◌, inl, inr, arith}
+use Rattle.std.proofs.Common.{◌≡◌, ℕ, zero, suc, ◌+◌, ◌<◌, ◌≤◌, Bool, true, false, true≢false, nat_eq, List, [], ◌∷◌, ◌++◌, drop, reverse, length, slice_get, Option, Some, None, refl, sym, ap, ◌⊎◌, subst, ◌∙◌, inl, inr, arith}
 use Rattle.std.specs.Cmp.{nat_cmp_total}
 use Rattle.std.specs.Cmp.Lexicographic.{slice_cmp}
 use Rattle.std.specs.List.{flat_map, list_any}
 use Rattle.std.specs.Ordering.{nat_cmp, ordering_then}
 use Rattle.std.specs.declared.cmp.Ordering.{Ordering}
 use Rattle.std.specs.declared.cmp.Ordering.TheVariants.{Equal, Less}
-use Rattle.std.proofs.lemmas.Bool.{eqb-true, eq-eqb, cases_eq}
+use Rattle.std.proofs.lemmas.Bool.{eqb-true, eq-eqb}
 use Rattle.std.proofs.lemmas.Cmp.{tied_itself}
 use Rattle.std.proofs.lemmas.List.{length-append}
-use Rattle.mg_word.specs.Sets.{with_lit}
 use Rattle.mg_word.specs.declared.lit.Lit.{Lit}
 use Rattle.mg_word.specs.declared.form.Inst.{Inst}
 use Rattle.mg_word.proofs.Members.{either_true, or_true, never_true, two_cases}
 use Rattle.tree_checker.specs.declared.doc.TreeLine.{TreeLine}
 use Rattle.tree_board.specs.Boards.{Board}
-use Rattle.tree_board.specs.Facts.{HasChildren, IsAmong, IsBoard}
+use Rattle.tree_board.specs.Facts.{IsAmong, IsBoard}
 use Rattle.tree_board.specs.NodeStates.{NodeState, Open, Split, Rejected, Settled, Shut, Found, Covered, Heavy}
 use Rattle.tree_board.specs.Nodes.{Node}
 use Rattle.tree_board.specs.Settings.{Setting}
@@ -24,7 +23,7 @@ use Rattle.tree_board.proofs.Below.{split_at}
 use Rattle.tree_board.proofs.Climbing.{child_path, tail_is_parents}
 use Rattle.tree_board.proofs.Places.{same_some}
 use Rattle.tree_board.proofs.TreeOrder.{before_beside}
-use Rattle.board_tree.proofs.Names.{named_node}
+use Rattle.board_tree.proofs.OwnNames.{named_node}
 use Rattle.board_tree.specs.Lines.{line_of, numbers_from, kids_of, name_of, before, in_place, by_name, lines_from, lines_within, lines_of}
 
 -- ---- counts of nodes
