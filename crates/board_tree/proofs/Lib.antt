@@ -9,3 +9,4 @@ pub mod Forming
 pub mod Tabled
 pub mod Written
 pub mod Listed
+pub mod Examples
