@@ -1,5 +1,5 @@
 -- Numbers, words, literals and lists of them that are spelled alike are the same, whatever follows.
-use Rattle.std.proofs.Common.{◌≡◌, ◌≢◌, ℕ, ◌^◌, ◌<◌, Bool, true, false, List, [], ◌∷◌, ◌++◌, map, All, AllPairs, refl, sym, ap, ◌∙◌, append_assoc, arith}
+use Rattle.std.proofs.Common.{◌≡◌, ◌≢◌, ℕ, ◌^◌, ◌<◌, Bool, true, false, List, [], ◌∷◌, ◌++◌, map, All, AllPairs, refl, sym, ◌∙◌, append_assoc, arith}
 use Rattle.std.specs.List.{list_all}
 use Rattle.std.specs.Fmt.{decimal}
 use Rattle.std.proofs.lemmas.List.Elements.{All-head, All-tail}
@@ -8,11 +8,10 @@ use Rattle.mg_word.specs.Words.{fits}
 use Rattle.mg_word.specs.Facts.{is_symbol, is_digit}
 use Rattle.mg_word.specs.Spelling.{spelled, spelled_lit, symbols_at}
 use Rattle.mg_word.specs.OneSpelling.{ends_word}
-use Rattle.mg_word.specs.declared.lit.Lit.{Lit}
 use Rattle.mg_word.proofs.SpelledWords.{words_apart, lits_apart}
-use Rattle.term_text.specs.Words.{IsWordOf, AreLitsOf}
-use Rattle.term_text.specs.Brackets.{after_items, in_brackets, listed}
-use Rattle.term_text.specs.Terms.{ends_term, IsTermAt, NoTerm}
+use Rattle.term_text.specs.Words.{IsWordOf}
+use Rattle.term_text.specs.Brackets.{after_items, listed}
+use Rattle.term_text.specs.Terms.{ends_term, NoTerm}
 use Rattle.ascii_text.proofs.Cuts.{stops, cut_unique}
 use Rattle.term_text.proofs.Texts.{heads, tails}
 use Rattle.ascii_text.proofs.Digits.{decimal_same, decimal_digits}

@@ -16,3 +16,4 @@ pub mod SymbolWords
 pub mod Once
 pub mod Joined
 pub mod Apart
+pub mod LitItems

@@ -1,25 +1,16 @@
 -- A list of terms is spelled by no other.
-use Rattle.std.proofs.Common.{◌≡◌, ◌≢◌, ℕ, zero, suc, ◌+◌, ◌^◌, ◌<◌, Bool, true, false, true≢false, List, [], ◌∷◌, ◌++◌, map, length, drop, slice_get, Option, Some, None, IsSome, All, AllPairs, Any, MatchBool, Err, nat_lt, refl, sym, ap, ◌∙◌, subst, codes, arith}
+use Rattle.std.proofs.Common.{◌≡◌, ℕ, zero, suc, ◌+◌, true, true≢false, List, [], ◌∷◌, ◌++◌, map, All, refl, sym, arith}
 use Rattle.std.specs.List.{list_all}
-use Rattle.std.specs.Fmt.{decimal}
-use Rattle.std.proofs.lemmas.Option.{slice_get_within}
-use Rattle.std.proofs.lemmas.List.Elements.{All-head, All-tail, All-cons, All-nil}
-use Rattle.std.proofs.lemmas.Bool.Decides.{nat_tests}
+use Rattle.std.proofs.lemmas.List.Elements.{All-head, All-tail}
 use Rattle.mg_word.specs.Table.{Symbol}
-use Rattle.mg_word.specs.Words.{numbered}
-use Rattle.mg_word.specs.Facts.{ProblemData, is_symbol, is_digit}
-use Rattle.mg_word.specs.Spelling.{spelled, spelled_symbols}
+use Rattle.mg_word.specs.Facts.{is_symbol}
+use Rattle.mg_word.specs.Spelling.{spelled_symbols}
 use Rattle.mg_word.specs.OneSpelling.{make_terms, ends_word}
-use Rattle.mg_word.specs.declared.form.Form.{Form}
 use Rattle.mg_word.proofs.Members.{both_true, and_true}
 use Rattle.mg_word.proofs.SpelledTerms.{symbols_apart}
-use Rattle.term_text.specs.Words.{most_symbols}
 use Rattle.term_text.specs.Brackets.{after_items, in_brackets}
-use Rattle.term_text.specs.OwnTerms.{are_own_terms, IsOwnTerm, HasUnknown, AllKnown, IsHeavy, IsLight}
-use Rattle.term_text.specs.Lists.{IsOnlyList, IsListRead}
-use Rattle.ascii_text.proofs.Cuts.{cut_unique}
+use Rattle.term_text.specs.OwnTerms.{are_own_terms, IsOwnTerm}
 use Rattle.term_text.proofs.Texts.{heads, tails}
-use Rattle.ascii_text.proofs.Digits.{decimal_same, decimal_digits}
 use Rattle.term_text.proofs.Listing.{only_none}
 
 pub own_made : (wanted : ℕ) (term : List Symbol) → are_own_terms wanted term ≡ true → (make_terms wanted term ≡ true) × (list_all is_symbol term ≡ true)

@@ -1,21 +1,17 @@
 -- Words over a table as lists of symbols.
-use Rattle.std.proofs.Common.{◌≡◌, ◌≢◌, ℕ, zero, suc, ◌+◌, ◌^◌, ◌≤◌, ◌<◌, Bool, true, false, true≢false, List, [], ◌∷◌, ◌++◌, map, length, slice_index_or, slice_get, Option, Some, None, IsSome, All, AllPairs, Any, MatchBool, MatchResult, Result, Ok, Err, refl, sym, ap, ◌∙◌, subst, inl, inr, codes, arith}
+use Rattle.std.proofs.Common.{◌≡◌, ◌≢◌, ℕ, zero, suc, ◌+◌, ◌^◌, ◌≤◌, ◌<◌, Bool, true, false, true≢false, List, [], ◌∷◌, ◌++◌, map, length, slice_index_or, slice_get, Some, All, AllPairs, refl, sym, ap, ◌∙◌, subst, arith}
 use Rattle.std.specs.List.{list_all}
 use Rattle.std.specs.Option.{option_map_or, option_to_list}
-use Rattle.std.specs.Fmt.{decimal}
-use Rattle.std.proofs.lemmas.Option.{slice_get_within, get_or_from_slice_get, slice_get_cases}
+use Rattle.std.proofs.lemmas.Option.{slice_get_within, get_or_from_slice_get}
 use Rattle.std.proofs.lemmas.List.Elements.{All-head, All-tail, All-cons, All-nil, All-map}
 use Rattle.mg_word.specs.Table.{Symbol}
-use Rattle.mg_word.specs.Words.{are_terms, numbered}
-use Rattle.mg_word.specs.Facts.{ProblemData, is_symbol}
+use Rattle.mg_word.specs.Words.{are_terms}
+use Rattle.mg_word.specs.Facts.{is_symbol}
 use Rattle.mg_word.specs.Spelling.{spelled, spelled_symbols, symbols_at}
-use Rattle.mg_word.specs.declared.form.Form.{Form}
 use Rattle.mg_word.proofs.AppliedWords.{at_symbol}
 use Rattle.mg_word.proofs.Different.{number_unique}
 use Rattle.term_text.specs.Words.{IsWordOf}
-use Rattle.term_text.specs.Brackets.{in_brackets}
-use Rattle.term_text.specs.OwnTerms.{are_own_terms, IsOwnTerm, IsSymbolOf, HasUnknown, AllKnown, IsHeavy, AreNumbers, AreWords, IsLight}
-use Rattle.term_text.specs.Lists.{NoList, IsListRead}
+use Rattle.term_text.specs.OwnTerms.{are_own_terms, IsOwnTerm, IsSymbolOf, AllKnown, AreNumbers, AreWords, IsLight}
 use Rattle.mg_word.proofs.Members.{both_true, and_true}
 
 pub passes_at : {X : Type 0} (p : X → Bool) (xs : List X) (i : ℕ) (x : X) → list_all p xs ≡ true → slice_get xs i ≡ Some x → p x ≡ true

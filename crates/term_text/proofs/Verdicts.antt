@@ -1,15 +1,16 @@
 -- What is found of the terms of a list, term by term.
-use Rattle.std.proofs.Common.{◌≡◌, ℕ, zero, suc, ◌+◌, ◌≤◌, ◌<◌, Bool, true, false, true≢false, not, ◌||◌, List, [], ◌∷◌, ◌++◌, length, take, slice_index_or, slice_get, Some, All, Any, MatchBool, refl, sym, ◌∙◌, subst, length-append, arith, nat_lt, if◌then◌else◌}
+use Rattle.std.proofs.Common.{◌≡◌, ℕ, zero, suc, ◌+◌, ◌≤◌, ◌<◌, Bool, true, false, true≢false, List, [], ◌∷◌, ◌++◌, length, take, slice_index_or, slice_get, Some, All, Any, MatchBool, refl, sym, ap, ◌∙◌, subst, length-append, arith, if◌then◌else◌}
 use Rattle.std.proofs.lemmas.List.{take_more, take_all, get_or_append_left}
 use Rattle.std.proofs.lemmas.List.Elements.{All-push, All-more, All-nil}
 use Rattle.std.proofs.lemmas.List.Quantifiers.{Any-push}
-use Rattle.std.proofs.lemmas.Bool.Decides.{nat_tests}
 use Rattle.mg_word.specs.Table.{Symbol, symbol_of}
+use Rattle.mg_word.specs.declared.lit.Lit.{Lit}
 use Rattle.mg_word.specs.declared.symbol.Kind.TheVariants.{Word}
 use Rattle.term_text.specs.Words.{most_symbols}
 use Rattle.term_text.specs.OwnTerms.{IsSymbolOf, HasUnknown, AllKnown, IsHeavy, AreNumbers, AreWords, IsLight}
 use Rattle.term_text.specs.Terms.{IsRaw, AreRaws}
-use Rattle.term_text.specs.Lists.{IsVerdict}
+use Rattle.term_text.specs.Lits.{RawLit, atoms, IsLit, AreLits}
+use Rattle.term_text.specs.Lists.{AreFlags, IsVerdict, IsLitVerdict}
 use Rattle.term_text.proofs.RawTerms.{raws_length}
 use Rattle.term_text.specs.declared.terms.Raw.{Raw}
 
@@ -69,65 +70,71 @@ known_all bytes raws table term i numbers light whole are lights so =
 any_left : {X : Type 0} (P : X → Type 0) (xs : List X) (y : X) → Any P xs → Any P (xs ++ y ∷ [])
 any_left P xs y some = (some.0, some.1, omega (arith, some.2, length-append xs (y ∷ [])), get_or_append_left xs (y ∷ []) some.1 some.0 some.2 ∙ some.3, some.4)
 
-unknown_more : (table : List Symbol) (have : List (List Symbol)) (term : List Symbol) (unknown known : Bool) → MatchBool unknown (Any (HasUnknown table) have) (All (AllKnown table) have) → MatchBool known (AllKnown table term) (HasUnknown table term)
-    → MatchBool (unknown || not known) (Any (HasUnknown table) (have ++ term ∷ [])) (All (AllKnown table) (have ++ term ∷ []))
-unknown_more table have term true known so here = any_left (HasUnknown table) have term so
-unknown_more table have term false true so here = All-push (AllKnown table) have term so here
-unknown_more table have term false false so here = Any-push (HasUnknown table) have term here
+-- what was found of a term more is found of them all
+module _ (table : List Symbol) (have : List (List Symbol)) (term : List Symbol) where
+  pub flags_unknown : (unknown heavy : Bool) → HasUnknown table term → AreFlags table have unknown heavy → AreFlags table (have ++ term ∷ []) true heavy
+  flags_unknown unknown heavy missing so = record { unknown_is = Any-push (HasUnknown table) have term missing; heavy_is = λ known. absurd (true≢false known) }
 
-heavy_more : (have : List (List Symbol)) (term : List Symbol) (heavy long : Bool) → MatchBool heavy (Any IsHeavy have) (All IsLight have) → MatchBool long (IsHeavy term) (IsLight term)
-    → MatchBool (heavy || long) (Any IsHeavy (have ++ term ∷ [])) (All IsLight (have ++ term ∷ []))
-heavy_more have term true long so here = any_left IsHeavy have term so
-heavy_more have term false true so here = Any-push IsHeavy have term here
-heavy_more have term false false so here = All-push IsLight have term so here
+  still_known : (unknown : Bool) → AllKnown table term → MatchBool unknown (Any (HasUnknown table) have) (All (AllKnown table) have) → MatchBool unknown (Any (HasUnknown table) (have ++ term ∷ [])) (All (AllKnown table) (have ++ term ∷ []))
+  still_known true known so = any_left (HasUnknown table) have term so
+  still_known false known so = All-push (AllKnown table) have term so known
 
-light_or_heavy : (term : List Symbol) (long : Bool) → long ≡ nat_lt most_symbols (length term) → MatchBool long (IsHeavy term) (IsLight term)
-light_or_heavy term true is = grind (arith, nat_tests)
-light_or_heavy term false is = grind (arith, nat_tests)
+  still_light : (heavy : Bool) → IsLight term → MatchBool heavy (Any IsHeavy have) (All IsLight have) → MatchBool heavy (Any IsHeavy (have ++ term ∷ [])) (All IsLight (have ++ term ∷ []))
+  still_light true light so = any_left IsHeavy have term so
+  still_light false light so = All-push IsLight have term so light
+
+  pub flags_heavy : (unknown heavy : Bool) → AllKnown table term → IsHeavy term → AreFlags table have unknown heavy → AreFlags table (have ++ term ∷ []) unknown true
+  flags_heavy unknown heavy known long so = record { unknown_is = still_known unknown known so.unknown_is; heavy_is = λ all. Any-push IsHeavy have term long }
+
+  pub flags_light : (unknown heavy : Bool) → AllKnown table term → IsLight term → AreFlags table have unknown heavy → AreFlags table (have ++ term ∷ []) unknown heavy
+  flags_light unknown heavy known light so = record { unknown_is = still_known unknown known so.unknown_is; heavy_is = λ all. still_light heavy light (so.heavy_is all) }
+
+pub no_flags : (table : List Symbol) → AreFlags table [] false false
+no_flags table = record { unknown_is = All-nil (AllKnown table); heavy_is = λ known. All-nil IsLight }
 
 pub no_verdict : (table : List Symbol) (words : List (List ℕ)) → words ≡ [] → IsVerdict table [] words false false
-no_verdict table words none = record {
-  unknown_is = All-nil (AllKnown table);
-  heavy_is = All-nil IsLight;
-  words_are = λ unknown heavy. subst (λ l. AreWords table l []) (sym none) tt;
-}
+no_verdict table words none = record { flags = no_flags table; words_are = λ unknown heavy. subst (λ l. AreWords table l []) (sym none) tt }
 
-either_false : (a b : Bool) → (a || b) ≡ false → (a ≡ false) × (b ≡ false)
-either_false false b is = (refl, is)
-either_false true b is = absurd (true≢false is)
+-- a term that is refused, and one that is taken
+module _ (table : List Symbol) (have : List (List Symbol)) (term : List Symbol) (words : List (List ℕ)) (unknown heavy : Bool) (so : IsVerdict table have words unknown heavy) where
+  pub verdict_unknown : HasUnknown table term → IsVerdict table (have ++ term ∷ []) words true heavy
+  verdict_unknown missing = record { flags = flags_unknown table have term unknown heavy missing so.flags; words_are = λ first second. absurd (true≢false first) }
 
-both_false : (a b : Bool) → a ≡ false → b ≡ false → (a || b) ≡ false
-both_false false b first second = second
-both_false true b first second = absurd (true≢false first)
+  pub verdict_heavy : AllKnown table term → IsHeavy term → IsVerdict table (have ++ term ∷ []) words unknown true
+  verdict_heavy known long = record { flags = flags_heavy table have term unknown heavy known long so.flags; words_are = λ first second. absurd (true≢false second) }
 
-true_or : (a b : Bool) → (a || b) ≡ true → a ≡ false → b ≡ false → ⊥
-true_or a b is first second = true≢false (sym is ∙ both_false a b first second)
+  pub verdict_taken : (word : List ℕ) → AllKnown table term → IsLight term → AreNumbers table word term → IsVerdict table (have ++ term ∷ []) (words ++ word ∷ []) unknown heavy
+  verdict_taken word known light are = record { flags = flags_light table have term unknown heavy known light so.flags; words_are = λ first second. words_push table words have word term (so.words_are first second) are }
 
--- a term that is refused
-pub verdict_refused : (table : List Symbol) (have : List (List Symbol)) (term : List Symbol) (words : List (List ℕ)) (unknown heavy known long : Bool) → MatchBool known (AllKnown table term) (HasUnknown table term) → long ≡ nat_lt most_symbols (length term)
-    → ((unknown || not known) || (heavy || long)) ≡ true → IsVerdict table have words unknown heavy → IsVerdict table (have ++ term ∷ []) words (unknown || not known) (heavy || long)
-verdict_refused table have term words unknown heavy known long found is some so = record {
-  unknown_is = unknown_more table have term unknown known so.unknown_is found;
-  heavy_is = heavy_more have term heavy long so.heavy_is (light_or_heavy term long is);
-  words_are = λ first second. absurd (true_or (unknown || not known) (heavy || long) some first second);
-}
+lits_push : (table : List Symbol) (lits : List Lit) (raws : List RawLit) (lit : Lit) (raw : RawLit) → AreLits table lits raws → IsLit table lit raw → AreLits table (lits ++ lit ∷ []) (raws ++ raw ∷ [])
+lits_push table [] [] lit raw are is = (is, tt)
+lits_push table [] (other ∷ raws) lit raw are is = elim are [ ]
+lits_push table (one ∷ lits) [] lit raw are is = elim are [ ]
+lits_push table (one ∷ lits) (other ∷ raws) lit raw are is = (are.0, lits_push table lits raws lit raw are.1 is)
 
--- a term that is taken
-pub verdict_taken : (table : List Symbol) (have : List (List Symbol)) (term : List Symbol) (words : List (List ℕ)) (word : List ℕ) (unknown heavy known long : Bool)
-    → MatchBool known (AllKnown table term × (length term ≤ most_symbols → AreNumbers table word term)) (HasUnknown table term) → long ≡ nat_lt most_symbols (length term)
-    → ((unknown || not known) || (heavy || long)) ≡ false → IsVerdict table have words unknown heavy → IsVerdict table (have ++ term ∷ []) (words ++ word ∷ []) (unknown || not known) (heavy || long)
-verdict_taken table have term words word unknown heavy true long found is none so =
-    let parts = either_false (unknown || false) (heavy || long) none in
-    let lights = either_false heavy long parts.1 in
-    let knowns = either_false unknown false parts.0 in
-    record {
-      unknown_is = unknown_more table have term unknown true so.unknown_is found.0;
-      heavy_is = heavy_more have term heavy long so.heavy_is (light_or_heavy term long is);
-      words_are = λ first second. words_push table words have word term (so.words_are knowns.0 lights.0) (found.1 (subst (λ b. MatchBool b (IsHeavy term) (IsLight term)) lights.1 (light_or_heavy term long is)));
-    }
-verdict_taken table have term words word unknown heavy false long found is none so =
-    absurd (true≢false (either_false unknown true (either_false (unknown || true) (heavy || long) none).0).1)
+atoms_push : (raws : List RawLit) (raw : RawLit) → atoms raws ++ raw.atom ∷ [] ≡ atoms (raws ++ raw ∷ [])
+atoms_push [] raw = refl
+atoms_push (one ∷ raws) raw = ap (λ l. one.atom ∷ l) (atoms_push raws raw)
 
-pub found_known : (table term : List Symbol) (word : List ℕ) (known : Bool) → MatchBool known (AllKnown table term × (length term ≤ most_symbols → AreNumbers table word term)) (HasUnknown table term) → MatchBool known (AllKnown table term) (HasUnknown table term)
-found_known table term word true found = found.0
-found_known table term word false found = found
+pub no_lit_verdict : (table : List Symbol) (lits : List Lit) → lits ≡ [] → IsLitVerdict table [] lits false false
+no_lit_verdict table lits none = record { flags = no_flags table; lits_are = λ unknown heavy. subst (λ l. AreLits table l []) (sym none) tt }
+
+-- the same of literals
+module _ (table : List Symbol) (have : List RawLit) (raw : RawLit) (lits : List Lit) (unknown heavy : Bool) (so : IsLitVerdict table have lits unknown heavy) where
+  pub lit_unknown : HasUnknown table raw.atom → IsLitVerdict table (have ++ raw ∷ []) lits true heavy
+  lit_unknown missing = record {
+    flags = subst (λ l. AreFlags table l true heavy) (atoms_push have raw) (flags_unknown table (atoms have) raw.atom unknown heavy missing so.flags);
+    lits_are = λ first second. absurd (true≢false first);
+  }
+
+  pub lit_heavy : AllKnown table raw.atom → IsHeavy raw.atom → IsLitVerdict table (have ++ raw ∷ []) lits unknown true
+  lit_heavy known long = record {
+    flags = subst (λ l. AreFlags table l unknown true) (atoms_push have raw) (flags_heavy table (atoms have) raw.atom unknown heavy known long so.flags);
+    lits_are = λ first second. absurd (true≢false second);
+  }
+
+  pub lit_taken : (lit : Lit) → AllKnown table raw.atom → IsLight raw.atom → IsLit table lit raw → IsLitVerdict table (have ++ raw ∷ []) (lits ++ lit ∷ []) unknown heavy
+  lit_taken lit known light is = record {
+    flags = subst (λ l. AreFlags table l unknown heavy) (atoms_push have raw) (flags_light table (atoms have) raw.atom unknown heavy known light so.flags);
+    lits_are = λ first second. lits_push table lits have lit raw (so.lits_are first second) is;
+  }

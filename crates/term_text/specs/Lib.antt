@@ -2,6 +2,7 @@ pub mod Words
 pub mod Brackets
 pub mod Fronts
 pub mod OwnTerms
+pub mod Lits
 pub mod Names
 pub mod Numbers
 pub mod Terms

@@ -3,11 +3,12 @@
 ghost use Rattle.std.specs.Prelude.{◌≡◌, ℕ, ◌≤◌, List, IfOk, OnOk, MatchBool, MatchOption, ◌++◌, ◌∷◌, []};
 ghost use Rattle.mg_word.specs.Table.{Symbol};
 ghost use Rattle.term_text.specs.Lists as lists;
-ghost use Rattle.term_text.specs.Terms as terms;
-ghost use Rattle.term_text.specs.OwnTerms.{HasUnknown};
+ghost use Rattle.term_text.specs.OwnTerms.{IsOwnTerm};
+ghost use Rattle.mg_word.specs.Spelling.{spelled_symbols};
 
+use crate::found::{FoundTerm, find_term};
 use crate::fronts::starts;
-use crate::terms::{Buffers, MOST_SYMBOLS, look_up, take_term};
+use crate::terms::{Buffers, take_term};
 use ascii_text::skip;
 use mg_word::{Items, NoMemory, Symbols, Word};
 use std::alloc::Global;
@@ -20,8 +21,8 @@ pub struct TermList {
     pub has_heavy: bool,
 }
 
-// Whether the closing bracket is all that is left.
-fn ends_list(bytes: &[u8]) -> bool
+/// Whether the closing bracket is all that is left.
+pub fn ends_list(bytes: &[u8]) -> bool
     ensures { MatchBool result (bytes.now ≡ 93 ∷ []) (bytes.now ≡ 93 ∷ [] → ⊥) }
 {
     match bytes {
@@ -30,34 +31,26 @@ fn ends_list(bytes: &[u8]) -> bool
     }
 }
 
-// Adds the term whose symbols are in the buffer.
-fn add_term(
-    alloc: Global,
-    bytes: &[u8],
-    symbols: &Symbols,
-    buffers: &mut Buffers,
-    list: &mut TermList,
-) -> Result<(), NoMemory>
-    requires { (term : List Symbol) × terms.AreRaws bytes.now buffers.old.raws.items term }
-    ensures { OnOk result ((term : List Symbol) (have : List (List Symbol)) → terms.AreRaws bytes.now buffers.old.raws.items term
-        → lists.IsVerdict symbols.now have list.old.words list.old.has_unknown list.old.has_heavy
-        → lists.IsVerdict symbols.now (have ++ term ∷ []) list.new.words list.new.has_unknown list.new.has_heavy) }
+// Adds what was found of a term.
+fn add_term(list: &mut TermList, found: FoundTerm) -> Result<(), NoMemory>
+    ensures { OnOk result ((table term : List Symbol) (have : List (List Symbol)) → lists.IsFoundTerm table term found
+        → lists.IsVerdict table have list.old.words list.old.has_unknown list.old.has_heavy
+        → lists.IsVerdict table (have ++ term ∷ []) list.new.words list.new.has_unknown list.new.has_heavy) }
 {
-    let known = look_up(
-        bytes,
-        &buffers.raws,
-        symbols,
-        &mut buffers.name,
-        &mut buffers.numbers,
-    )?;
-    list.has_unknown = list.has_unknown | !known;
-    list.has_heavy = list.has_heavy | (buffers.raws.len() > MOST_SYMBOLS);
-    if list.has_unknown | list.has_heavy {
-        return Ok(());
+    match found {
+        FoundTerm::Unknown => {
+            list.has_unknown = true;
+            Ok(())
+        }
+        FoundTerm::Heavy => {
+            list.has_heavy = true;
+            Ok(())
+        }
+        FoundTerm::Word(word) => {
+            list.words.push(word)?;
+            Ok(())
+        }
     }
-    let word = Word::new(Vec::from_slice(alloc, &buffers.numbers)?);
-    list.words.push(word)?;
-    Ok(())
 }
 
 /// The list behind its opening bracket, if that is all of the text.
@@ -67,7 +60,7 @@ pub fn read_list(
     symbols: &Symbols,
     buffers: &mut Buffers,
 ) -> Result<Option<TermList>, NoMemory>
-    ensures { IfOk result (λ found. MatchOption found (lists.NoList bytes.now)
+    ensures { IfOk result (λ found. MatchOption found (lists.NoList spelled_symbols IsOwnTerm bytes.now)
         (λ list. lists.IsListRead symbols.now bytes.now list.words list.has_unknown list.has_heavy)) }
 {
     let mut list = TermList {
@@ -89,7 +82,8 @@ pub fn read_list(
         let Some(end) = taken else {
             return Ok(None);
         };
-        add_term(alloc, rest, symbols, buffers, &mut list)?;
+        let found = find_term(alloc, rest, symbols, buffers)?;
+        add_term(&mut list, found)?;
         let behind = skip(rest, end);
         if ends_list(behind) {
             return Ok(Some(list));

@@ -1,20 +1,11 @@
-use Rattle.std.proofs.Common.{◌≡◌, length, nat_lt, ap, ◌∙◌, arith}
-use Rattle.term_text.proofs.RawTerms.{raws_length}
-use Rattle.term_text.proofs.Verdicts.{verdict_refused, verdict_taken, found_known}
+use Rattle.term_text.proofs.Verdicts.{verdict_unknown, verdict_heavy, verdict_taken}
 use Rattle.term_text.proofs.lists.add_term.Goals as goal
 
-pub returns-then-list : goal.returns-then-list
-returns-then-list c =
-    λ term have are so.
-    let count : c.len.result ≡ length term = omega (arith, c.len.ensures, raws_length c.args.bytes.now c.args.buffers.now.raws.items term are) in
-    verdict_refused c.args.symbols.now have term c.args.list.now.words c.args.list.now.has_unknown c.args.list.now.has_heavy c.in_ok-known.known _ (found_known c.args.symbols.now term c.look_up.new.numbers.items c.in_ok-known.known (c.in_ok-known.ensures term (rw c.deref.ensures.value are))) (ap (nat_lt 65536) count)
-    c.if-list.true so
+pub returns-in-Unknown : goal.returns-in-Unknown
+returns-in-Unknown c = λ table term have is so. verdict_unknown table have term _ _ _ so (rw c.in-Unknown.is at is)
 
-pub returns : goal.returns
-returns c =
-    λ term have are so.
-    let count : c.len.result ≡ length term = omega (arith, c.len.ensures, raws_length c.args.bytes.now c.args.buffers.now.raws.items term are) in
-    let word : c.new-word.result ≡ c.look_up.new.numbers.items = c.new-word.ensures ∙ (c.in_ok-from_slice.ensures.items ∙ c.deref-2.ensures.value) in
-    rw (c.in_ok-push.ensures.ok, word)
-    (verdict_taken c.args.symbols.now have term c.args.list.now.words c.look_up.new.numbers.items c.args.list.now.has_unknown c.args.list.now.has_heavy c.in_ok-known.known _ (c.in_ok-known.ensures term (rw c.deref.ensures.value are)) (ap (nat_lt 65536) count)
-    c.if-list.false so)
+pub returns-in-Heavy : goal.returns-in-Heavy
+returns-in-Heavy c = λ table term have is so. let found = rw c.in-Heavy.is at is in verdict_heavy table have term _ _ _ so found.0 found.1
+
+pub returns-in_ok-push-in-Word : goal.returns-in_ok-push-in-Word
+returns-in_ok-push-in-Word c = λ table term have is so. let found = rw c.in-Word.is at is in rw c.in_ok-push-in-Word.ensures.ok (verdict_taken table have term _ _ _ so c.in-Word.word found.0 found.1 found.2)

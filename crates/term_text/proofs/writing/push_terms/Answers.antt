@@ -1,4 +1,4 @@
-use Rattle.std.proofs.Common.{length, ◌≤◌, ap, ◌++◌, ◌∙◌, arith}
+use Rattle.std.proofs.Common.{length, ◌≤◌, arith}
 use Rattle.mg_word.specs.Spelling.{spelled}
 use Rattle.term_text.proofs.Joined.{list_more, list_end}
 use Rattle.term_text.proofs.writing.push_terms.Goals as goal
