@@ -24,7 +24,7 @@ use Rattle.tree_checker.specs.declared.doc.Why.{Why}
 use Rattle.tree_checker.specs.declared.doc.Reject.TheVariants.{Line as BrokenLine}
 use Rattle.tree_checker.specs.declared.doc_fault.DocKind.{DocKind}
 use Rattle.tree_checker.specs.declared.doc_fault.DocFault.TheVariants.{Line as FaultyLine, NoMemory as NoMemoryForDoc}
-use Rattle.proof_tree.proofs.OneDocFault.{one_doc_fault}
+use Rattle.proof_tree.proofs.OneFirstFault.{one_first_fault as one_doc_fault}
 use Rattle.command_line.specs.Asking.{Request, Check, Forms, Asks, problem_file, tree_file}
 use Rattle.command_line.specs.Checks.{IsAccepted, IsRejected, IsUnread, IsJudged, IsChecked}
 use Rattle.command_line.specs.Problems.{IsProblemOf}
@@ -59,7 +59,7 @@ judged_once problem text Accepted (Unread line kind) sound p q = absurd (q.none 
 judged_once problem text (Rejected line why) Accepted sound p q = absurd (p.not_accepted (subst (λ doc. Accepts problem doc) (p.only q.doc q.read) q.accepts))
 judged_once problem text (Rejected line why) (Rejected line' why') sound p q =
     let other = subst (λ doc. Rejects problem doc (BrokenLine line' why')) (p.only q.doc q.read) q.rejects in
-    let same = reject_once problem p.doc line line' why why' p.read.no_blocks p.rejects other in
+    let same = reject_once problem p.doc line line' why why' p.rejects other in
     let lines : line ≡ line' = same.0 in
     let whys : why ≡ why' = same.1 in
     cc
@@ -68,7 +68,7 @@ judged_once problem text (Unread line kind) Accepted sound p q = absurd (p.none 
 judged_once problem text (Unread line kind) (Rejected line' why) sound p q = absurd (p.none q.doc q.read)
 judged_once problem text (Unread line kind) (Unread line' kind') sound p q =
     let fault : FaultyLine line kind ≡ FaultyLine line' kind' =
-    one_doc_fault problem sound.input.named sound.input.different text (FaultyLine line kind) (FaultyLine line' kind') (known line kind) (known line' kind') p.faulty q.faulty in
+    one_doc_fault problem sound text (FaultyLine line kind) (FaultyLine line' kind') (known line kind) (known line' kind') p.faulty q.faulty in
     cc
 
 same_text : (found : Option (List ℕ)) (a b : List ℕ) → found ≡ Some a → found ≡ Some b → a ≡ b

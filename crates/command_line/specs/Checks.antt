@@ -11,7 +11,7 @@ use Rattle.tree_checker.specs.declared.doc.Reject.TheVariants.{Line as BrokenLin
 use Rattle.tree_checker.specs.declared.doc_fault.DocKind.{DocKind}
 use Rattle.tree_checker.specs.declared.doc_fault.DocFault.TheVariants.{Line as FaultyLine}
 use Rattle.proof_tree.specs.DocText.{IsDocText}
-use Rattle.proof_tree.specs.DocFaults.{IsDocFault}
+use Rattle.proof_tree.specs.FirstFaults.{IsDocFault}
 use Rattle.command_line.specs.Lines.{accepted_lines, rejected_line, why_words, kind_words}
 use Rattle.command_line.specs.Problems.{IsProblemOf}
 use Rattle.command_line.specs.declared.printout.Printout.{Printout}

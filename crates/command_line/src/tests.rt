@@ -112,7 +112,7 @@ fn trees_of_a_ground_problem(rt: HostRuntime) -> Result<(), Fail> {
         (
             "mgtp tree 1\nroot\nform 1 []\nby 1\nform 3 []\n",
             1,
-            "% Tree rejected at line 4: line not built yet\n",
+            "% Tree rejected at line 4: lemma number\n",
         ),
         (
             "mgtp tree 1\nroot\nform 1 []\nform 2 []\nform 3 []\nroot\n",

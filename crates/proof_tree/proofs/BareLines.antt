@@ -1,9 +1,9 @@
 -- How the lines that begin with `%` are passed over.
 use Rattle.std.proofs.Common.{◌≡◌, ◌≢◌, ℕ, ◌+◌, ◌<◌, Bool, true, false, true≢false, not, nat_eq, List, [], ◌∷◌, ◌++◌, length, drop, slice_index_or, refl, sym, ap, ◌∙◌, subst, eqb-true, eq-eqb, if◌then◌else◌}
 use Rattle.std.proofs.lemmas.List.{drop_more}
-use Rattle.proof_tree.specs.DocText.{start, kept, passed, bare_from, bare}
+use Rattle.proof_tree.specs.Bare.{start, kept, passed, bare_from, bare}
 use Rattle.ascii_text.specs.Bytes.{is_in_line}
-use Rattle.proof_tree.specs.DocFaults.{has_no_feed, BeginsWithLine}
+use Rattle.proof_tree.specs.FirstFaults.{has_no_feed, BeginsWithLine}
 use Rattle.term_text.specs.Fronts.{begins_with}
 use Rattle.mg_word.proofs.Members.{both_true, and_true}
 use Rattle.ascii_text.proofs.Cuts.{stops}

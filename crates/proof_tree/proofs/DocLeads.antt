@@ -1,5 +1,5 @@
 -- The lines of a well-formed document stand rightly, up to the end of the root's tree.
-use Rattle.std.proofs.Common.{◌≡◌, ℕ, zero, suc, ◌+◌, ◌^◌, ◌<◌, ◌≤◌, true, true≢false, List, [], ◌∷◌, ◌++◌, map, length, Option, Some, None, IsSome, All, refl, sym, ap, ◌∙◌, subst, append_assoc, arith}
+use Rattle.std.proofs.Common.{◌≡◌, ◌≢◌, ℕ, zero, suc, ◌+◌, ◌^◌, ◌<◌, ◌≤◌, true, true≢false, List, [], ◌∷◌, ◌++◌, map, length, Option, Some, None, IsSome, All, refl, sym, ap, ◌∙◌, subst, append_assoc, arith}
 use Rattle.std.specs.Option.{option_map_or}
 use Rattle.std.proofs.lemmas.List.Elements.{All-head, All-tail}
 use Rattle.mg_word.specs.Words.{numbered, lit_instances}
@@ -12,13 +12,16 @@ use Rattle.tree_checker.specs.declared.doc.Doc.{Doc}
 use Rattle.tree_checker.specs.declared.doc.LemmaBlock.{LemmaBlock}
 use Rattle.tree_checker.specs.declared.doc.TreeLine.{TreeLine}
 use Rattle.tree_checker.specs.declared.doc.TreeLine.TheVariants.{Form as FormLine, Clash, Barred, By}
-use Rattle.proof_tree.specs.DocFaults.{trees_left}
-use Rattle.proof_tree.proofs.TreeCounts.{tree_counted}
+use Rattle.proof_tree.proofs.TreeCounts.{trees_left, tree_counted}
 use Rattle.proof_tree.specs.DocLines.{DocLine, header_line, lemma_line, inside_line, outside_line, root_line}
-use Rattle.proof_tree.specs.LinesOfDocs.{lit_in_line, tree_line, block_lines, blocks_lines, doc_lines}
+use Rattle.tree_checker.specs.declared.doc_fault.DocKind.{DocKind}
+use Rattle.tree_checker.specs.declared.doc_fault.DocKind.TheVariants.{Header, NotBuilt, Syntax, Block, FormNumber, Unknown, Heavy, Order, Early, Rest}
+use Rattle.proof_tree.specs.FirstFaults.{LineFault}
+use Rattle.proof_tree.specs.Reading.{IsTreeAt}
+use Rattle.proof_tree.specs.DocText.{lit_in_line, tree_line, block_lines, blocks_lines, doc_lines}
 use Rattle.proof_tree.specs.Standing.{Place, at_header, at_block, at_inside, at_outside, in_block, in_root, node, kind_of, may_stand, children, behind_block, place_behind, lit_of, IsRight, StandsAt, Leads}
 
-Leads-append : (problem : ProblemData) (first middle last : Place) (lines more : List (DocLine (List ℕ))) → Leads problem first lines middle → Leads problem middle more last → Leads problem first (lines ++ more) last
+pub Leads-append : (problem : ProblemData) (first middle last : Place) (lines more : List (DocLine (List ℕ))) → Leads problem first lines middle → Leads problem middle more last → Leads problem first (lines ++ more) last
 Leads-append problem first middle last [] more here there = subst (λ p. Leads problem p more last) (sym here) there
 Leads-append problem first middle last (line ∷ lines) more here there = (here.0, Leads-append problem (place_behind problem.forms first line) middle last lines more here.1 there)
 
@@ -40,7 +43,7 @@ children_is forms (By number) = refl
 same_lit : (lit : Lit) → lit_of (lit_in_line lit) ≡ lit
 same_lit lit = refl
 
-same_lits : (lits : List Lit) → map lit_of (map lit_in_line lits) ≡ lits
+pub same_lits : (lits : List Lit) → map lit_of (map lit_in_line lits) ≡ lits
 same_lits [] = refl
 same_lits (lit ∷ lits) = ap (λ l. lit ∷ l) (same_lits lits)
 
@@ -56,19 +59,38 @@ is_node (Clash lit) = refl
 is_node (Barred lit) = refl
 is_node (By number) = refl
 
--- the places in a tree, by how many trees are still to come
-record IsTreeAt (forms : List Form) (places : ℕ → Place) : Type 0 where
-  stands : (wanted : ℕ) (line : TreeLine) → may_stand (places (suc wanted)) (kind_of (tree_line line)) ≡ true
-  next : (wanted : ℕ) (line : TreeLine) → place_behind forms (places (suc wanted)) (tree_line line) ≡ places (children forms (tree_line line) + wanted)
+not_root : (wanted : ℕ) → in_root (suc wanted) ≢ in_root 0
+not_root wanted same = cc
 
-root_places : (forms : List Form) → IsTreeAt forms in_root
-root_places forms = record { stands = λ wanted line. ap (may_stand (in_root (suc wanted))) (is_node line); next = λ wanted line. refl }
+pub root_places : (problem : ProblemData) → IsTreeAt problem in_root
+root_places problem = record {
+  stands = λ wanted line. ap (may_stand (in_root (suc wanted))) (is_node line);
+  next = λ wanted line. refl;
+  fault = λ wanted text kind fault. later wanted text kind fault;
+  early = not_root;
+}
+  where
+    later : (wanted : ℕ) (text : List ℕ) (kind : DocKind) → LineFault problem (in_root 1) text kind → LineFault problem (in_root (suc wanted)) text kind
+    later wanted text Syntax fault = fault
+    later wanted text kind fault = fault
 
-block_places : (forms : List Form) (blocks : ℕ) → IsTreeAt forms (behind_block blocks)
-block_places forms blocks = record { stands = λ wanted line. ap (may_stand (in_block blocks (suc wanted))) (is_node line); next = λ wanted line. refl }
+not_block : (blocks wanted : ℕ) → in_block blocks (suc wanted) ≢ in_root 0
+not_block blocks wanted same = cc
 
-module _ (problem : ProblemData) (places : ℕ → Place) (at : IsTreeAt problem.forms places) where
-  counted_leads : (lines : List TreeLine) (wanted left : ℕ) → All (LineFits problem.symbols) lines → All (IsKnown problem.forms) lines → trees_left problem.forms wanted lines ≡ Some left
+pub block_places : (problem : ProblemData) (blocks : ℕ) → IsTreeAt problem (behind_block blocks)
+block_places problem blocks = record {
+  stands = λ wanted line. ap (may_stand (in_block blocks (suc wanted))) (is_node line);
+  next = λ wanted line. refl;
+  fault = λ wanted text kind fault. later wanted text kind fault;
+  early = not_block blocks;
+}
+  where
+    later : (wanted : ℕ) (text : List ℕ) (kind : DocKind) → LineFault problem (in_root 1) text kind → LineFault problem (in_block blocks (suc wanted)) text kind
+    later wanted text Syntax fault = fault
+    later wanted text kind fault = fault
+
+module _ (problem : ProblemData) (places : ℕ → Place) (at : IsTreeAt problem places) where
+  pub counted_leads : (lines : List TreeLine) (wanted left : ℕ) → All (LineFits problem.symbols) lines → All (IsKnown problem.forms) lines → trees_left problem.forms wanted lines ≡ Some left
       → Leads problem (places wanted) (map tree_line lines) (places left)
   counted_leads [] wanted left fits known is = let same : wanted ≡ left = cc in ap places same
   counted_leads (line ∷ lines) zero left fits known is = absurd (none is)
@@ -81,23 +103,23 @@ module _ (problem : ProblemData) (places : ℕ → Place) (at : IsTreeAt problem
         (counted_leads lines (length (conclusions_at problem.forms line) + wanted) left (All-tail (LineFits problem.symbols) line lines fits) (All-tail (IsKnown problem.forms) line lines known) is),
   )
 
-  tree_leads : (lines : List TreeLine) → AreLines problem lines → Leads problem (places 1) (map tree_line lines) (places 0)
+  pub tree_leads : (lines : List TreeLine) → AreLines problem lines → Leads problem (places 1) (map tree_line lines) (places 0)
   tree_leads lines are = counted_leads lines 1 0 are.fitting are.known (tree_counted problem.forms lines are.tree)
 
-lemma_set : (problem : ProblemData) (lits : List Lit) → IsLemmaSet problem.symbols lits → IsLemmaSet problem.symbols (map lit_of (map lit_in_line lits))
+pub lemma_set : (problem : ProblemData) (lits : List Lit) → IsLemmaSet problem.symbols lits → IsLemmaSet problem.symbols (map lit_of (map lit_in_line lits))
 lemma_set problem lits is = subst (IsLemmaSet problem.symbols) (sym (same_lits lits)) is
 
 module _ (problem : ProblemData) where
-  block_leads : (blocks : ℕ) (block : LemmaBlock) → suc blocks < 2 ^ 32 → IsBlock problem block → Leads problem (at_block blocks) (block_lines (suc blocks) block) (at_block (suc blocks))
+  pub block_leads : (blocks : ℕ) (block : LemmaBlock) → suc blocks < 2 ^ 32 → IsBlock problem block → Leads problem (at_block blocks) (block_lines (suc blocks) block) (at_block (suc blocks))
   block_leads blocks block small is = (
     record { kind = refl; right = (refl, small) },
     (
       record { kind = refl; right = lemma_set problem block.inside is.inside },
-      (record { kind = refl; right = lemma_set problem block.outside is.outside }, tree_leads problem (behind_block blocks) (block_places problem.forms blocks) block.tree is.lines),
+      (record { kind = refl; right = lemma_set problem block.outside is.outside }, tree_leads problem (behind_block blocks) (block_places problem blocks) block.tree is.lines),
     ),
   )
 
-  blocks_lead : (passed : ℕ) (blocks : List LemmaBlock) → passed + length blocks < 2 ^ 32 → All (IsBlock problem) blocks → Leads problem (at_block passed) (blocks_lines (passed + 1) blocks) (at_block (passed + length blocks))
+  pub blocks_lead : (passed : ℕ) (blocks : List LemmaBlock) → passed + length blocks < 2 ^ 32 → All (IsBlock problem) blocks → Leads problem (at_block passed) (blocks_lines (passed + 1) blocks) (at_block (passed + length blocks))
   blocks_lead passed [] small all = let same : passed ≡ passed + 0 = omega arith in ap at_block same
   blocks_lead passed (block ∷ blocks) small all =
       let next : passed + 1 ≡ suc passed = omega arith in
@@ -113,5 +135,5 @@ module _ (problem : ProblemData) where
     record { kind = refl; right = tt },
     Leads-append problem (at_block 0) (at_block (0 + length doc.lemmas)) (in_root 0) (blocks_lines 1 doc.lemmas) (root_line ∷ map tree_line doc.root)
         (blocks_lead 0 doc.lemmas (omega (arith, is.few)) is.blocks)
-        (record { kind = refl; right = tt }, tree_leads problem in_root (root_places problem.forms) doc.root is.root),
+        (record { kind = refl; right = tt }, tree_leads problem in_root (root_places problem) doc.root is.root),
   )

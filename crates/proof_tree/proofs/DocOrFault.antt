@@ -18,14 +18,16 @@ use Rattle.tree_checker.specs.Docs.{IsWellFormed}
 use Rattle.tree_checker.specs.declared.doc.Doc.{Doc}
 use Rattle.tree_checker.specs.declared.doc_fault.DocKind.{DocKind}
 use Rattle.tree_checker.specs.declared.doc_fault.DocKind.TheVariants.{Header, NotBuilt, Syntax, Block, FormNumber, Unknown, Heavy, Order, Early, Rest}
-use Rattle.proof_tree.specs.DocLines.{LineLit, DocLine, header_line, lemma_line, inside_line, outside_line, root_line, form_line, clash_line, barred_line, by_line, lit_text, line_text, ended}
-use Rattle.proof_tree.specs.LinesOfDocs.{doc_lines, doc_text}
+use Rattle.proof_tree.specs.DocLines.{DocLine, header_line, lemma_line, inside_line, outside_line, root_line, form_line, clash_line, barred_line, by_line, line_text, ended}
+use Rattle.term_text.specs.Lits.{LineLit, lit_text}
+use Rattle.proof_tree.specs.DocText.{doc_lines, doc_text}
 use Rattle.proof_tree.specs.Standing.{Place, at_header, in_root, lit_of, place_behind, IsRight, StandsAt, Leads}
 use Rattle.proof_tree.specs.FirstFaults.{has_no_feed, BeginsWithLine, LineFault, FaultAt, FirstFault}
 use Rattle.proof_tree.proofs.LineFeeds.{no_feed_append, digit_no_feed, within_no_feed, symbols_named, feed_in, line_unique}
 use Rattle.proof_tree.proofs.LinesApart.{HasParts, line_apart}
 use Rattle.proof_tree.proofs.RawLines.{small_number}
-use Rattle.proof_tree.proofs.FineLines.{unsigned, fine}
+use Rattle.term_text.proofs.LitItems.{unsigned}
+use Rattle.proof_tree.proofs.FineLines.{fine}
 use Rattle.proof_tree.proofs.DocLeads.{doc_leads}
 
 -- no line feed is in a list of items that have none
@@ -40,13 +42,13 @@ list_none f (x ∷ xs) all = no_feed_append (f x) (after_items (map f xs)) (All-
 number_none : (n : ℕ) → n < 2 ^ 32 → has_no_feed (decimal n) ≡ true
 number_none n small = all_weaker is_digit is_in_line digit_no_feed (decimal n) (decimal_digits n small)
 
-no_text : (line after : List ℕ) → [] ≡ line ++ 10 ∷ after → ⊥
+pub no_text : (line after : List ℕ) → [] ≡ line ++ 10 ∷ after → ⊥
 no_text [] after same = cc
 no_text (byte ∷ line) after same = cc
 
 module _ (problem : ProblemData) (is : IsProblem problem) where
-  abbrev text_of : DocLine (List ℕ) → List ℕ
-  text_of line = line_text (spelled problem.symbols) line
+  abbrev text_at : DocLine (List ℕ) → List ℕ
+  text_at line = line_text (spelled problem.symbols) line
 
   word_none : (word : List ℕ) → has_no_feed (spelled problem.symbols word) ≡ true
   word_none word = within_no_feed [] (symbols_at problem.symbols word) (symbols_named problem.symbols word is.input.named)
@@ -55,7 +57,7 @@ module _ (problem : ProblemData) (is : IsProblem problem) where
   lit_none true atom = word_none atom
   lit_none false atom = word_none atom
 
-  line_none : (line : DocLine (List ℕ)) → HasParts (IsWordOf problem.symbols) line → has_no_feed (text_of line) ≡ true
+  pub line_none : (line : DocLine (List ℕ)) → HasParts (IsWordOf problem.symbols) line → has_no_feed (text_at line) ≡ true
   line_none header_line parts = refl
   line_none root_line parts = refl
   line_none (lemma_line n) parts = number_none n parts
@@ -71,7 +73,7 @@ module _ (problem : ProblemData) (is : IsProblem problem) where
   lits_parts (lit ∷ lits) all =
       All-cons (λ l. IsWordOf problem.symbols l.atom) lit lits (All-head (λ l. IsWordOf problem.symbols l.word) (lit_of lit) (map lit_of lits) all) (lits_parts lits (All-tail (λ l. IsWordOf problem.symbols l.word) (lit_of lit) (map lit_of lits) all))
 
-  right_parts : (place : Place) (line : DocLine (List ℕ)) → IsRight problem place line → HasParts (IsWordOf problem.symbols) line
+  pub right_parts : (place : Place) (line : DocLine (List ℕ)) → IsRight problem place line → HasParts (IsWordOf problem.symbols) line
   right_parts place header_line right = tt
   right_parts place (lemma_line n) right = right.1
   right_parts place (inside_line lits) right = lits_parts lits right.words
@@ -85,26 +87,26 @@ module _ (problem : ProblemData) (is : IsProblem problem) where
   words_unsigned : (word : List ℕ) (more further : List ℕ) → IsWordOf problem.symbols word → spelled problem.symbols word ++ more ≡ 126 ∷ further → ⊥
   words_unsigned word more further fit same = unsigned (symbols_at problem.symbols word) more further (own_word problem.symbols is.input.named 1 word fit.0) same
 
-  pub lines_apart : (place there : Place) (a b : DocLine (List ℕ)) (more further : List ℕ) → IsRight problem place a → IsRight problem there b → text_of a ++ 10 ∷ more ≡ text_of b ++ 10 ∷ further → (a ≡ b) × (more ≡ further)
+  pub lines_apart : (place there : Place) (a b : DocLine (List ℕ)) (more further : List ℕ) → IsRight problem place a → IsRight problem there b → text_at a ++ 10 ∷ more ≡ text_at b ++ 10 ∷ further → (a ≡ b) × (more ≡ further)
   lines_apart place there a b more further right also same =
       line_apart (spelled problem.symbols) (IsWordOf problem.symbols) (terms_apart problem.symbols is.input.named is.input.different) words_unsigned a b more further (right_parts place a right) (right_parts there b also) same
 
   -- where the rest of a document stands, nothing is wrong
-  rest_fine : (place : Place) (lines : List (DocLine (List ℕ))) (rest : List ℕ) (kind : DocKind) → Leads problem place lines (in_root 0) → ended (map text_of lines) ≡ rest → FaultAt problem place rest kind → ⊥
+  rest_fine : (place : Place) (lines : List (DocLine (List ℕ))) (rest : List ℕ) (kind : DocKind) → Leads problem place lines (in_root 0) → ended (map text_at lines) ≡ rest → FaultAt problem place rest kind → ⊥
   rest_fine place [] rest Early leads same fault = fault.1 (sym same) leads
   rest_fine place [] rest kind leads same fault = no_text fault.0 fault.1 (same ∙ fault.2.split)
-  rest_fine place (line ∷ lines) rest Early leads same fault = feed_in (text_of line) (ended (map text_of lines)) (subst (λ t. has_no_feed t ≡ true) (sym same) fault.0)
+  rest_fine place (line ∷ lines) rest Early leads same fault = feed_in (text_at line) (ended (map text_at lines)) (subst (λ t. has_no_feed t ≡ true) (sym same) fault.0)
   rest_fine place (line ∷ lines) rest kind leads same fault =
-      let one = line_unique (text_of line) fault.0 (ended (map text_of lines)) fault.1 (line_none line (right_parts place line leads.0.right)) fault.2.one (same ∙ fault.2.split) in
+      let one = line_unique (text_at line) fault.0 (ended (map text_at lines)) fault.1 (line_none line (right_parts place line leads.0.right)) fault.2.one (same ∙ fault.2.split) in
       fine problem is place line kind leads.0 (subst (λ t. LineFault problem place t kind) (sym one.0) fault.3)
 
   -- a front of a document leads to where the document goes on
   front_fine : (place last : Place) (before lines : List (DocLine (List ℕ))) (rest : List ℕ) (kind : DocKind) → Leads problem place before last → Leads problem place lines (in_root 0)
-      → ended (map text_of lines) ≡ ended (map text_of before) ++ rest → FaultAt problem last rest kind → ⊥
+      → ended (map text_at lines) ≡ ended (map text_at before) ++ rest → FaultAt problem last rest kind → ⊥
   front_fine place last [] lines rest kind front leads same fault = rest_fine place lines rest kind leads same (subst (λ p. FaultAt problem p rest kind) (sym front) fault)
-  front_fine place last (line ∷ before) [] rest kind front leads same fault = no_text (text_of line) (ended (map text_of before) ++ rest) (same ∙ append_assoc (text_of line) (10 ∷ ended (map text_of before)) rest)
+  front_fine place last (line ∷ before) [] rest kind front leads same fault = no_text (text_at line) (ended (map text_at before) ++ rest) (same ∙ append_assoc (text_at line) (10 ∷ ended (map text_at before)) rest)
   front_fine place last (line ∷ before) (next ∷ lines) rest kind front leads same fault =
-      let one = lines_apart place place next line (ended (map text_of lines)) (ended (map text_of before) ++ rest) leads.0.right front.0.right (same ∙ append_assoc (text_of line) (10 ∷ ended (map text_of before)) rest) in
+      let one = lines_apart place place next line (ended (map text_at lines)) (ended (map text_at before) ++ rest) leads.0.right front.0.right (same ∙ append_assoc (text_at line) (10 ∷ ended (map text_at before)) rest) in
       front_fine (place_behind problem.forms place line) last before lines rest kind front.1 (subst (λ l. Leads problem (place_behind problem.forms place l) lines (in_root 0)) one.0 leads.1) one.1 fault
 
   -- the text of a well-formed document has no first fault

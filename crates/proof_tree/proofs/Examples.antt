@@ -9,8 +9,9 @@ use Rattle.mg_word.specs.declared.lit.PatLit.{PatLit}
 use Rattle.mg_word.specs.declared.form.Form.{Form}
 use Rattle.mg_word.specs.declared.item.Item.TheVariants.{Sym}
 use Rattle.tree_checker.specs.declared.doc.TreeLine.TheVariants.{Form as FormLine, Clash, Barred, By}
-use Rattle.proof_tree.specs.DocText.{doc_text, bare}
-use Rattle.proof_tree.specs.DocFaults.{trees_left, is_later_line}
+use Rattle.proof_tree.specs.Bare.{bare}
+use Rattle.proof_tree.specs.DocText.{doc_text}
+use Rattle.proof_tree.proofs.TreeCounts.{trees_left}
 use Rattle.term_text.specs.OwnTerms.{are_own_terms}
 
 abbrev b : Symbol
@@ -76,7 +77,3 @@ one_too_many = refl
 -- `p(b,b),b` are two terms, and neither one nor three
 terms : map (λ wanted. are_own_terms wanted (p ∷ b ∷ b ∷ b ∷ [])) (1 ∷ 2 ∷ 3 ∷ []) ≡ false ∷ true ∷ false ∷ []
 terms = refl
-
--- which lines are not read yet
-later_lines : map is_later_line (codes "by 1" ∷ codes "lemma 1" ∷ codes "inside []" ∷ codes "outside []" ∷ codes "clash b" ∷ codes "barred b" ∷ codes "by" ∷ codes "root" ∷ codes "form 1 []" ∷ []) ≡ true ∷ true ∷ true ∷ true ∷ true ∷ true ∷ false ∷ false ∷ false ∷ []
-later_lines = refl

@@ -10,29 +10,23 @@ use Rattle.mg_word.specs.Spelling.{spelled, spelled_symbols, spelled_name, spell
 use Rattle.mg_word.specs.declared.lit.Lit.{Lit}
 use Rattle.mg_word.specs.declared.form.Form.{Form}
 use Rattle.mg_word.proofs.Members.{both_true}
-use Rattle.mg_word.proofs.SpelledNames.{no_sign_first}
 use Rattle.term_text.specs.Words.{IsWordOf}
 use Rattle.term_text.specs.OwnTerms.{are_own_terms, IsOwnTerm, IsSymbolOf, HasUnknown, AllKnown, IsHeavy, IsLight, AreNumbers}
 use Rattle.term_text.proofs.Once.{term_once}
 use Rattle.term_text.proofs.Apart.{AreApart, no_term_at_end}
+use Rattle.term_text.proofs.LitItems.{unsigned}
 use Rattle.term_text.proofs.SymbolWords.{known_word, length_at, numbers_word, numbers_same}
 use Rattle.tree_checker.specs.Docs.{IsLemmaSet}
-use Rattle.proof_tree.specs.DocLines.{LineLit, DocLine, header_line, lemma_line, inside_line, outside_line, root_line, form_line, clash_line, barred_line, by_line, line_text}
+use Rattle.proof_tree.specs.DocLines.{DocLine, header_line, lemma_line, inside_line, outside_line, root_line, form_line, clash_line, barred_line, by_line, line_text}
+use Rattle.term_text.specs.Lits.{LineLit}
 use Rattle.proof_tree.specs.Standing.{Place, at_header, at_block, at_inside, at_outside, in_block, in_root, kind_of, may_stand, lit_of, IsRight, StandsAt, next_number}
-use Rattle.proof_tree.specs.FirstFaults.{RawLine, words_of, HasSmallNumber, IsSpelled, HasOtherNumber, HasNoForm, AreLits, AreUnordered, HasNoOrder, RawFault, StandsNowhere, LineFault}
+use Rattle.proof_tree.specs.FirstFaults.{RawLine, words_of, HasSmallNumber, IsSpelled, HasOtherNumber, HasNoForm, AreUnordered, HasNoOrder, RawFault, StandsNowhere, LineFault}
+use Rattle.term_text.specs.Lits.{AreLits, atoms}
 use Rattle.tree_checker.specs.declared.doc_fault.DocKind.{DocKind}
 use Rattle.tree_checker.specs.declared.doc_fault.DocKind.TheVariants.{Header, NotBuilt, Syntax, Block, FormNumber, Unknown, Heavy, Order, Early, Rest}
-use Rattle.proof_tree.proofs.FormLines.{any_all}
+use Rattle.proof_tree.proofs.Quantified.{any_all}
 use Rattle.proof_tree.proofs.LinesApart.{HasParts, line_apart}
 use Rattle.proof_tree.proofs.RawLines.{raw_lit, raw_line, raw_kind, raw_words, raw_spelled}
-
--- no term begins with `~`
-pub unsigned : (term : List Symbol) (more further : List ℕ) → IsOwnTerm term → spelled_symbols term ++ more ≡ 126 ∷ further → ⊥
-unsigned [] more further own same = true≢false (sym own)
-unsigned (symbol ∷ term) more further own same =
-    let after = behind symbol.arity [] ++ spelled_within (open_behind symbol.arity []) (map symbol_piece term) in
-    no_sign_first symbol.kind symbol.name symbol.arity (after ++ more) further (both_true (is_symbol symbol) (are_own_terms (symbol.arity + 0) term) own).0
-    (sym (append_assoc (spelled_name symbol.kind symbol.name) after more) ∙ same)
 
 own_apart : AreApart spelled_symbols IsOwnTerm
 own_apart = record {
@@ -40,7 +34,7 @@ own_apart = record {
   some = λ a more further here end same. no_term_at_end further a more (record { own = here; text = same; ends = end });
 }
 
-lits_own : (lits : List (LineLit (List Symbol))) → All IsOwnTerm (map (λ lit. lit.atom) lits) → All (λ lit. IsOwnTerm lit.atom) lits
+pub lits_own : (lits : List (LineLit (List Symbol))) → All IsOwnTerm (map (λ lit. lit.atom) lits) → All (λ lit. IsOwnTerm lit.atom) lits
 lits_own [] own = All-nil (λ lit. IsOwnTerm lit.atom)
 lits_own (lit ∷ lits) own =
     All-cons (λ l. IsOwnTerm l.atom) lit lits (All-head IsOwnTerm lit.atom (map (λ l. l.atom) lits) own) (lits_own lits (All-tail IsOwnTerm lit.atom (map (λ l. l.atom) lits) own))
@@ -77,9 +71,9 @@ module _ (problem : ProblemData) (is : IsProblem problem) where
   lits_same (other ∷ others) [] are fit = elim are [ ]
   lits_same (other ∷ others) (lit ∷ lits) are fit =
       let here = All-head (λ l. IsWordOf problem.symbols l.word) (lit_of lit) (map lit_of lits) fit in
-      let word = numbers_same problem.symbols is.input.named is.input.different other.word lit.atom (symbols_at problem.symbols lit.atom) are.1 (numbers_word problem.symbols is.input.named 1 lit.atom here.0) in
-      let rest = lits_same others lits are.2 (All-tail (λ l. IsWordOf problem.symbols l.word) (lit_of lit) (map lit_of lits) fit) in
-      let sign = are.0 in
+      let word = numbers_same problem.symbols is.input.named is.input.different other.word lit.atom (symbols_at problem.symbols lit.atom) are.0.1 (numbers_word problem.symbols is.input.named 1 lit.atom here.0) in
+      let rest = lits_same others lits are.1 (All-tail (λ l. IsWordOf problem.symbols l.word) (lit_of lit) (map lit_of lits) fit) in
+      let sign = are.0.0 in
       λ i. record { negative = sign i; word = word i } ∷ rest i
 
   ordered : (lits : List (LineLit (List ℕ))) → IsLemmaSet problem.symbols (map lit_of lits) → AreUnordered problem.symbols (map (raw_lit problem.symbols) lits) → ⊥

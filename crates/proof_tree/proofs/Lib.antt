@@ -1,18 +1,18 @@
 mod Examples
+pub mod Quantified
 pub mod BareLines
-pub mod FormLines
 pub mod TreeCounts
 pub mod LineFeeds
-pub mod TreeFronts
-pub mod Documents
-pub mod OneFormLine
-pub mod OneKind
-pub mod OneFront
-pub mod OneDocFault
 pub mod Written
-pub mod DocsApart
-pub mod DocLeads
 pub mod LinesApart
 pub mod RawLines
 pub mod FineLines
+pub mod DocLeads
 pub mod DocOrFault
+pub mod DocsApart
+pub mod OneFirstFault
+pub mod NodeLines
+pub mod SetLines
+pub mod FaultsFrom
+pub mod BareLength
+pub mod WholeDocs

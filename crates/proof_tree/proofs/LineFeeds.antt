@@ -9,12 +9,8 @@ use Rattle.std.specs.Option.{option_to_list}
 use Rattle.mg_word.specs.declared.symbol.Kind.{Kind}
 use Rattle.mg_word.specs.declared.symbol.Kind.TheVariants.{Word, Integer, Distinct}
 use Rattle.mg_word.specs.Spelling.{is_lower_word, spelled, symbols_at, spelled_within, symbol_piece, spelled_name, behind, open_behind, closing, escaped, quoted}
-use Rattle.tree_checker.specs.declared.doc.TreeLine.{TreeLine}
-use Rattle.tree_checker.specs.declared.doc.TreeLine.TheVariants.{Form as FormLine, Clash, Barred, By}
-use Rattle.proof_tree.specs.DocText.{line_text, NamesForm}
-use Rattle.term_text.specs.Brackets.{listed, after_items, in_brackets}
 use Rattle.ascii_text.specs.Bytes.{is_in_line}
-use Rattle.proof_tree.specs.DocFaults.{has_no_feed}
+use Rattle.proof_tree.specs.FirstFaults.{has_no_feed}
 use Rattle.mg_word.proofs.Members.{both_true, and_true}
 use Rattle.ascii_text.proofs.Cuts.{cut_unique}
 use Rattle.term_text.proofs.Texts.{tails, all_weaker}
@@ -86,25 +82,6 @@ symbols_named table (number ∷ word) named = by (slice_get table number) refl (
     by : (found : Option Symbol) → slice_get table number ≡ found → list_all is_symbol (symbols_at table word) ≡ true → list_all is_symbol (option_to_list found ++ symbols_at table word) ≡ true
     by None is rest = rest
     by (Some symbol) is rest = and_true (is_symbol symbol) (list_all is_symbol (symbols_at table word)) (passes_at is_symbol table number symbol named is) rest
-
-after_no_feed : (table : List Symbol) (words : List (List ℕ)) → list_all is_symbol table ≡ true → has_no_feed (after_items (map (spelled table) words)) ≡ true
-after_no_feed table [] named = refl
-after_no_feed table (word ∷ words) named =
-    no_feed_append (spelled table word) (after_items (map (spelled table) words)) (within_no_feed [] (symbols_at table word) (symbols_named table word named)) (after_no_feed table words named)
-
-list_no_feed : (table : List Symbol) (words : List (List ℕ)) → list_all is_symbol table ≡ true → has_no_feed (in_brackets (map (spelled table) words)) ≡ true
-list_no_feed table [] named = refl
-list_no_feed table (word ∷ words) named =
-    no_feed_append (spelled table word) (after_items (map (spelled table) words)) (within_no_feed [] (symbols_at table word) (symbols_named table word named)) (after_no_feed table words named)
-
--- no line feed is in the line of a form
-pub line_no_feed : (problem : ProblemData) (line : TreeLine) → list_all is_symbol problem.symbols ≡ true → NamesForm line → has_no_feed (line_text problem.symbols line) ≡ true
-line_no_feed problem (FormLine number words) named form =
-    no_feed_append (codes "form ") (decimal number ++ 32 ∷ listed (map (spelled problem.symbols) words)) refl
-    (no_feed_append (decimal number) (32 ∷ listed (map (spelled problem.symbols) words)) (all_weaker is_digit is_in_line digit_no_feed (decimal number) (decimal_digits number form)) (list_no_feed problem.symbols words named))
-line_no_feed problem (Clash lit) named form = absurd form
-line_no_feed problem (Barred lit) named form = absurd form
-line_no_feed problem (By number) named form = absurd form
 
 -- a text begins with one line alone
 pub line_unique : (a b r s : List ℕ) → has_no_feed a ≡ true → has_no_feed b ≡ true → a ++ 10 ∷ r ≡ b ++ 10 ∷ s → (a ≡ b) × (r ≡ s)

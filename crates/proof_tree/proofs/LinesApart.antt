@@ -7,10 +7,11 @@ use Rattle.term_text.specs.Brackets.{listed}
 use Rattle.term_text.specs.Terms.{ends_term}
 use Rattle.term_text.proofs.Texts.{heads, tails}
 use Rattle.term_text.proofs.Apart.{AreApart, numbers_apart, lists_apart}
-use Rattle.proof_tree.specs.DocLines.{LineLit, DocLine, header_line, lemma_line, inside_line, outside_line, root_line, form_line, clash_line, barred_line, by_line, lit_text, line_text}
+use Rattle.proof_tree.specs.DocLines.{DocLine, header_line, lemma_line, inside_line, outside_line, root_line, form_line, clash_line, barred_line, by_line, line_text}
+use Rattle.term_text.specs.Lits.{LineLit, lit_text}
 
 -- the first two bytes of a text, as one number
-abbrev front_of : List ℕ → ℕ
+abbrev pub front_of : List ℕ → ℕ
 front_of text = get_or text 0 0 * 256 + get_or text 1 0
 
 -- what a line has to meet: its numbers fit 32 bits, and its words are such

@@ -14,7 +14,8 @@ use Rattle.term_text.specs.Words.{IsWordOf}
 use Rattle.term_text.specs.OwnTerms.{IsOwnTerm}
 use Rattle.term_text.specs.Brackets.{listed}
 use Rattle.term_text.proofs.SymbolWords.{own_word}
-use Rattle.proof_tree.specs.DocLines.{LineLit, DocLine, header_line, lemma_line, inside_line, outside_line, root_line, form_line, clash_line, barred_line, by_line, lit_text, line_text}
+use Rattle.proof_tree.specs.DocLines.{DocLine, header_line, lemma_line, inside_line, outside_line, root_line, form_line, clash_line, barred_line, by_line, line_text}
+use Rattle.term_text.specs.Lits.{LineLit, lit_text}
 use Rattle.proof_tree.specs.Standing.{Place, kind_of, lit_of, IsRight, StandsAt, next_number}
 use Rattle.proof_tree.specs.FirstFaults.{RawLine, words_of, HasSmallNumber, IsSpelled}
 

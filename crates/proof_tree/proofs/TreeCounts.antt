@@ -1,9 +1,14 @@
 -- Trees are counted by their lines.
-use Rattle.std.proofs.Common.{◌≡◌, ℕ, zero, suc, ◌+◌, List, [], ◌∷◌, ◌++◌, length, Some, None, refl, sym, ap, ◌∙◌, subst, append_assoc, append-nil, arith}
+use Rattle.std.proofs.Common.{◌≡◌, ℕ, zero, suc, ◌+◌, List, [], ◌∷◌, ◌++◌, length, Option, Some, None, refl, sym, ap, ◌∙◌, subst, append_assoc, append-nil, arith}
 use Rattle.mg_word.specs.declared.form.Form.{Form}
 use Rattle.tree_checker.specs.Trees.{Trees, done, tree, preorder, AreTrees, IsTree, conclusions_at}
 use Rattle.tree_checker.specs.declared.doc.TreeLine.{TreeLine}
-use Rattle.proof_tree.specs.DocFaults.{trees_left}
+
+-- the trees that are still to come behind these lines, where so many were to come before them
+abbrev pub trees_left : List Form → ℕ → List TreeLine → Option ℕ
+trees_left forms wanted [] = Some wanted
+trees_left forms zero (line ∷ lines) = None
+trees_left forms (suc wanted) (line ∷ lines) = trees_left forms (length (conclusions_at forms line) + wanted) lines
 
 -- the lines of so many trees leave those that were to come behind them
 pub trees_counted : (forms : List Form) (n k : ℕ) (trees : Trees) (more : List TreeLine) → AreTrees forms n trees → trees_left forms (n + k) (preorder trees ++ more) ≡ trees_left forms k more

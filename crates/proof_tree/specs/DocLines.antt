@@ -1,13 +1,8 @@
 -- The lines of documents, over any way to write the words that they name.
-use Rattle.std.specs.Prelude.{ℕ, Bool, List, [], ◌∷◌, ◌++◌, map, codes}
+use Rattle.std.specs.Prelude.{ℕ, List, [], ◌∷◌, ◌++◌, map, codes}
 use Rattle.std.specs.Fmt.{decimal}
-use Rattle.mg_word.specs.Spelling.{spelled_sign}
 use Rattle.term_text.specs.Brackets.{listed}
-
--- a literal whose atom is written by such a word
-pub record LineLit (W : Type 0) : Type 0 where
-  pub negative : Bool
-  pub atom : W
+use Rattle.term_text.specs.Lits.{LineLit, lit_text}
 
 -- a line of each kind
 pub data DocLine (W : Type 0) : Type 0 where
@@ -20,10 +15,6 @@ pub data DocLine (W : Type 0) : Type 0 where
   clash_line : (lit : LineLit W) → DocLine W
   barred_line : (lit : LineLit W) → DocLine W
   by_line : (number : ℕ) → DocLine W
-
--- the text of a literal whose atom is spelled so
-abbrev pub lit_text : {W : Type 0} → (W → List ℕ) → LineLit W → List ℕ
-lit_text spell lit = spelled_sign lit.negative ++ spell lit.atom
 
 -- the text of a line whose words are spelled so
 abbrev pub line_text : {W : Type 0} → (W → List ℕ) → DocLine W → List ℕ

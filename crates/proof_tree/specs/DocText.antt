@@ -1,95 +1,54 @@
--- The text of a document, line by line, and a text without its lines that begin with `%`.
-use Rattle.std.specs.Prelude.{◌≡◌, ℕ, ◌+◌, ◌<◌, ◌^◌, nat_eq, List, [], ◌∷◌, ◌++◌, map, codes, if◌then◌else◌, All}
-use Rattle.std.specs.Fmt.{decimal}
-use Rattle.mg_word.specs.Table.{Symbol}
+-- The lines of a document, and the text that they are.
+use Rattle.std.specs.Prelude.{◌≡◌, ℕ, ◌+◌, List, [], ◌∷◌, ◌++◌, map}
 use Rattle.mg_word.specs.Facts.{ProblemData}
-use Rattle.mg_word.specs.Spelling.{spelled, spelled_lit}
-use Rattle.term_text.specs.Brackets.{listed}
+use Rattle.mg_word.specs.Spelling.{spelled}
+use Rattle.mg_word.specs.declared.lit.Lit.{Lit}
+use Rattle.term_text.specs.Lits.{LineLit}
 use Rattle.tree_checker.specs.Docs.{IsWellFormed}
 use Rattle.tree_checker.specs.declared.doc.Doc.{Doc}
 use Rattle.tree_checker.specs.declared.doc.LemmaBlock.{LemmaBlock}
 use Rattle.tree_checker.specs.declared.doc.TreeLine.{TreeLine}
 use Rattle.tree_checker.specs.declared.doc.TreeLine.TheVariants.{Form as FormLine, Clash, Barred, By}
+use Rattle.proof_tree.specs.Bare.{bare}
+use Rattle.proof_tree.specs.DocLines.{DocLine, header_line, lemma_line, inside_line, outside_line, root_line, form_line, clash_line, barred_line, by_line, line_text, ended}
 
--- a form's number and terms that are spelled so
-abbrev pub form_line : ℕ → List (List ℕ) → List ℕ
-form_line number terms = codes "form " ++ (decimal number ++ 32 ∷ listed terms)
+-- a literal as it stands in a line: its atom is a word
+abbrev pub lit_in_line : Lit → LineLit (List ℕ)
+lit_in_line lit = record { negative = lit.negative; atom = lit.word }
 
 -- a line of a tree
-abbrev pub line_text : List Symbol → TreeLine → List ℕ
-line_text table (FormLine number terms) = form_line number (map (spelled table) terms)
-line_text table (Clash lit) = codes "clash " ++ spelled_lit table lit
-line_text table (Barred lit) = codes "barred " ++ spelled_lit table lit
-line_text table (By number) = codes "by " ++ decimal number
+abbrev pub tree_line : TreeLine → DocLine (List ℕ)
+tree_line (FormLine number terms) = form_line number terms
+tree_line (Clash lit) = clash_line (lit_in_line lit)
+tree_line (Barred lit) = barred_line (lit_in_line lit)
+tree_line (By number) = by_line number
+
+-- the lines of a block behind the first
+abbrev pub inner_lines : LemmaBlock → List (DocLine (List ℕ))
+inner_lines block = inside_line (map lit_in_line block.inside) ∷ outside_line (map lit_in_line block.outside) ∷ map tree_line block.tree
 
 -- the lines of a block with that number
-abbrev pub block_lines : List Symbol → ℕ → LemmaBlock → List (List ℕ)
-block_lines table number block =
-    (codes "lemma " ++ decimal number) ∷ (codes "inside " ++ listed (map (spelled_lit table) block.inside)) ∷ (codes "outside " ++ listed (map (spelled_lit table) block.outside))
-    ∷ map (line_text table) block.tree
+abbrev pub block_lines : ℕ → LemmaBlock → List (DocLine (List ℕ))
+block_lines number block = lemma_line number ∷ inner_lines block
 
 -- the lines of blocks that are numbered from that number
-abbrev pub blocks_lines : List Symbol → ℕ → List LemmaBlock → List (List ℕ)
-blocks_lines table number [] = []
-blocks_lines table number (block ∷ blocks) = block_lines table number block ++ blocks_lines table (number + 1) blocks
-
--- the first line of each document
-abbrev pub header : List ℕ
-header = codes "mgtp tree 1"
-
--- the line before the root's tree
-abbrev pub root_word : List ℕ
-root_word = codes "root"
+abbrev pub blocks_lines : ℕ → List LemmaBlock → List (DocLine (List ℕ))
+blocks_lines number [] = []
+blocks_lines number (block ∷ blocks) = block_lines number block ++ blocks_lines (number + 1) blocks
 
 -- the lines of a document: the header, the blocks, and the root's tree
-abbrev pub doc_lines : ProblemData → Doc → List (List ℕ)
-doc_lines problem doc = header ∷ (blocks_lines problem.symbols 1 doc.lemmas ++ root_word ∷ map (line_text problem.symbols) doc.root)
+abbrev pub doc_lines : Doc → List (DocLine (List ℕ))
+doc_lines doc = header_line ∷ (blocks_lines 1 doc.lemmas ++ root_line ∷ map tree_line doc.root)
 
--- each line is ended by a line feed
-abbrev pub ended : List (List ℕ) → List ℕ
-ended [] = []
-ended (line ∷ lines) = line ++ 10 ∷ ended lines
+-- the text of lines of a problem, each ended by a line feed
+abbrev pub text_of : ProblemData → List (DocLine (List ℕ)) → List ℕ
+text_of problem lines = ended (map (line_text (spelled problem.symbols)) lines)
 
 -- the text of a document
 abbrev pub doc_text : ProblemData → Doc → List ℕ
-doc_text problem doc = ended (doc_lines problem doc)
+doc_text problem doc = text_of problem (doc_lines doc)
 
--- where a byte stands: at the start of a line, further on in a line that counts, or in one that is passed over
-pub data Spot : Type 0 where
-  start : Spot
-  kept : Spot
-  passed : Spot
-
--- where the next byte stands
-abbrev pub next_spot : Spot → ℕ → Spot
-next_spot start byte = if nat_eq byte 37 then passed else (if nat_eq byte 10 then start else kept)
-next_spot kept byte = if nat_eq byte 10 then start else kept
-next_spot passed byte = if nat_eq byte 10 then start else passed
-
--- the byte, where it stands in a line that counts
-abbrev pub kept_byte : Spot → ℕ → List ℕ
-kept_byte start byte = if nat_eq byte 37 then [] else byte ∷ []
-kept_byte kept byte = byte ∷ []
-kept_byte passed byte = []
-
-abbrev pub bare_from : Spot → List ℕ → List ℕ
-bare_from spot [] = []
-bare_from spot (byte ∷ bytes) = kept_byte spot byte ++ bare_from (next_spot spot byte) bytes
-
--- the text without its lines that begin with `%`
-abbrev pub bare : List ℕ → List ℕ
-bare bytes = bare_from start bytes
-
--- the line names a form, by a number that fits 32 bits
-abbrev pub NamesForm : TreeLine → Type 0
-NamesForm (FormLine number terms) = number < 2 ^ 32
-NamesForm (Clash lit) = ⊥
-NamesForm (Barred lit) = ⊥
-NamesForm (By number) = ⊥
-
--- the text is that of a document that has no blocks and names forms alone, but for lines that begin with `%`
+-- the text is that of the document, but for lines that begin with `%`
 pub record IsDocText (problem : ProblemData) (doc : Doc) (bytes : List ℕ) : Type 0 where
   pub well_formed : IsWellFormed problem doc
-  pub no_blocks : doc.lemmas ≡ []
-  pub forms_alone : All NamesForm doc.root
   pub text : bare bytes ≡ doc_text problem doc

@@ -8,13 +8,14 @@ use Rattle.mg_word.specs.Facts.{ProblemData}
 use Rattle.mg_word.specs.Spelling.{spelled, spelled_symbols}
 use Rattle.mg_word.specs.declared.lit.Lit.{Lit}
 use Rattle.ascii_text.specs.Bytes.{is_in_line}
-use Rattle.term_text.specs.OwnTerms.{IsOwnTerm, HasUnknown, AllKnown, IsHeavy, IsLight, AreNumbers}
+use Rattle.term_text.specs.OwnTerms.{IsOwnTerm, HasUnknown, AllKnown, IsHeavy, IsLight}
+use Rattle.term_text.specs.Lits.{LineLit, AreLits, atoms}
 use Rattle.tree_checker.specs.declared.doc_fault.DocKind.{DocKind}
 use Rattle.tree_checker.specs.declared.doc_fault.DocKind.TheVariants.{Header, Syntax, Block, FormNumber, Unknown, Heavy, Order, Early, Rest}
 use Rattle.tree_checker.specs.declared.doc_fault.DocFault.{DocFault}
 use Rattle.tree_checker.specs.declared.doc_fault.DocFault.TheVariants.{Line, NoMemory}
-use Rattle.proof_tree.specs.DocLines.{DocLine, LineLit, header_line, lemma_line, inside_line, outside_line, root_line, form_line, clash_line, barred_line, by_line, line_text, ended}
-use Rattle.proof_tree.specs.DocText.{bare}
+use Rattle.proof_tree.specs.DocLines.{DocLine, header_line, lemma_line, inside_line, outside_line, root_line, form_line, clash_line, barred_line, by_line, line_text, ended}
+use Rattle.proof_tree.specs.Bare.{bare}
 use Rattle.proof_tree.specs.Standing.{Place, at_header, at_block, at_inside, at_outside, in_block, in_root, next_number, kind_of, may_stand, Leads}
 
 -- a line as it is spelled: its words are terms by their own symbols, which may be in no table
@@ -23,8 +24,8 @@ RawLine = DocLine (List Symbol)
 
 -- the words that a line names
 abbrev pub words_of : {W : Type 0} → DocLine W → List W
-words_of (inside_line lits) = map (λ lit. lit.atom) lits
-words_of (outside_line lits) = map (λ lit. lit.atom) lits
+words_of (inside_line lits) = atoms lits
+words_of (outside_line lits) = atoms lits
 words_of (form_line number terms) = terms
 words_of (clash_line lit) = lit.atom ∷ []
 words_of (barred_line lit) = lit.atom ∷ []
@@ -42,13 +43,6 @@ pub record IsSpelled (text : List ℕ) (line : RawLine) : Type 0 where
   pub small : HasSmallNumber line
   pub own : All IsOwnTerm (words_of line)
   pub is : line_text spelled_symbols line ≡ text
-
--- these are the literals of a set in a line
-abbrev pub AreLits : List Symbol → List Lit → List (LineLit (List Symbol)) → Type 0
-AreLits table [] [] = Unit {0}
-AreLits table [] (raw ∷ raws) = ⊥
-AreLits table (lit ∷ lits) [] = ⊥
-AreLits table (lit ∷ lits) (raw ∷ raws) = (lit.negative ≡ raw.negative) × AreNumbers table lit.word raw.atom × AreLits table lits raws
 
 -- the literals do not rise strictly
 abbrev pub AreUnordered : List Symbol → List (LineLit (List Symbol)) → Type 0
@@ -106,15 +100,19 @@ abbrev pub FaultAt : ProblemData → Place → List ℕ → DocKind → Type 0
 FaultAt problem place text Early = (has_no_feed text ≡ true) × (text ≡ [] → place ≢ in_root 0)
 FaultAt problem place text kind = (line : List ℕ) × (after : List ℕ) × BeginsWithLine text line after × LineFault problem place line kind
 
--- a line with a fault stands behind lines that are the front of a document
-pub record FirstFault (problem : ProblemData) (text : List ℕ) (number : ℕ) (kind : DocKind) : Type 0 where
+-- the fault of a text that begins at a place, where its first line has that number: it is the first behind lines that lead on from there
+pub record FaultFrom (problem : ProblemData) (start : Place) (text : List ℕ) (from number : ℕ) (kind : DocKind) : Type 0 where
   pub before : List (DocLine (List ℕ))
   pub place : Place
-  pub front : Leads problem at_header before place
+  pub front : Leads problem start before place
   pub rest : List ℕ
   pub split : text ≡ ended (map (line_text (spelled problem.symbols)) before) ++ rest
-  pub number_is : number ≡ length before + 1
+  pub number_is : number ≡ length before + from
   pub fault : FaultAt problem place rest kind
+
+-- a line with a fault stands behind lines that are the front of a document
+abbrev pub FirstFault : ProblemData → List ℕ → ℕ → DocKind → Type 0
+FirstFault problem text number kind = FaultFrom problem at_header text 1 number kind
 
 -- the fault is the first of the text, whose lines that begin with `%` are passed over and not counted
 abbrev pub IsDocFault : ProblemData → List ℕ → DocFault → Type 0

@@ -1,8 +1,7 @@
-pub mod DocFaults
-pub mod DocText
-pub mod Lines
+pub mod Bare
 pub mod DocLines
-pub mod LinesOfDocs
 pub mod Standing
-pub mod LineLaws
+pub mod DocText
 pub mod FirstFaults
+pub mod LineLaws
+pub mod Reading

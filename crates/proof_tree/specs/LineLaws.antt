@@ -4,7 +4,7 @@ use Rattle.mg_word.specs.Facts.{ProblemData, IsProblem}
 use Rattle.tree_checker.specs.Docs.{IsWellFormed}
 use Rattle.tree_checker.specs.declared.doc.Doc.{Doc}
 use Rattle.tree_checker.specs.declared.doc_fault.DocKind.{DocKind}
-use Rattle.proof_tree.specs.LinesOfDocs.{doc_lines, doc_text}
+use Rattle.proof_tree.specs.DocText.{doc_lines, doc_text}
 use Rattle.proof_tree.specs.Standing.{at_header, in_root, Leads}
 use Rattle.proof_tree.specs.FirstFaults.{RawLine, IsSpelled, FirstFault}
 

@@ -6,8 +6,9 @@ use Rattle.mg_word.specs.Facts.{ProblemData}
 use Rattle.mg_word.specs.declared.lit.Lit.{Lit}
 use Rattle.mg_word.specs.declared.form.Form.{Form}
 use Rattle.term_text.specs.Words.{IsWordOf}
+use Rattle.term_text.specs.Lits.{LineLit}
 use Rattle.tree_checker.specs.Docs.{IsLemmaSet}
-use Rattle.proof_tree.specs.DocLines.{DocLine, LineLit, header_line, lemma_line, inside_line, outside_line, root_line, form_line, clash_line, barred_line, by_line}
+use Rattle.proof_tree.specs.DocLines.{DocLine, header_line, lemma_line, inside_line, outside_line, root_line, form_line, clash_line, barred_line, by_line}
 
 -- what comes next: the header; the next block or the root, behind so many blocks; the inside or the outside of the next
 -- block; a line of its tree, or of the root's, with so many trees still to come

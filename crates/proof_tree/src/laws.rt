@@ -1,18 +1,17 @@
 //! Laws of the texts of documents, each the contract of a function that does nothing.
 
-ghost use Rattle.std.specs.Prelude.{◌≡◌, ◌≢◌, ℕ, AllPairs, IsTrue, List};
-ghost use Rattle.std.specs.List.{list_all};
-ghost use Rattle.mg_word.specs.Facts.{IsProblem, ProblemData, is_symbol};
+ghost use Rattle.std.specs.Prelude.{◌≡◌, ◌≢◌, ℕ, List};
+ghost use Rattle.mg_word.specs.Facts.{IsProblem, ProblemData};
 ghost use Rattle.tree_checker.specs.Docs.{IsWellFormed};
-ghost use Rattle.proof_tree.specs.DocFaults.{IsDocFault};
+ghost use Rattle.proof_tree.specs.FirstFaults.{IsDocFault};
 ghost use Rattle.proof_tree.specs.DocText.{doc_text};
 ghost use Rattle.proof_tree.specs.LineLaws.{LinesAreSpelledApart, DocumentsLeadToTheirEnd, DocumentsHaveNoFirstFault};
 
 use tree_checker::{Doc, DocFault};
 
-/// For a problem whose symbols have names of their kinds and are all different, a text has at most one first fault.
-pub fn one_document_fault()
-    ensures { (problem : ProblemData) → IsTrue (list_all is_symbol problem.symbols) → AllPairs (λ a b. a ≢ b) problem.symbols → (text : List ℕ) (a b : DocFault) → a ≢ DocFault.NoMemory → b ≢ DocFault.NoMemory → IsDocFault problem text a → IsDocFault problem text b → a ≡ b }
+/// A text has at most one first fault.
+pub fn one_first_fault()
+    ensures { (problem : ProblemData) → IsProblem problem → (text : List ℕ) (a b : DocFault) → a ≢ DocFault.NoMemory → b ≢ DocFault.NoMemory → IsDocFault problem text a → IsDocFault problem text b → a ≡ b }
 {}
 
 /// No text of a well-formed document of a problem is the text of another one.

@@ -1,15 +1,17 @@
 //! Documents of proofs as texts: the reading of a text as a document.
 #![tactic(auto)]
 
-mod form_lines;
+mod blocks;
 mod laws;
+mod line_fault;
 mod lines;
+mod nodes;
 mod reading;
 mod writing;
 
 pub use laws::{
     documents_are_spelled_apart, documents_have_no_first_fault, documents_lead_to_their_end,
-    lines_are_spelled_apart, one_document_fault,
+    lines_are_spelled_apart, one_first_fault,
 };
 pub use reading::read_doc;
 pub use tree_checker::{DocFault, DocKind};

@@ -1,9 +1,9 @@
 //! The lines of a text, without those that begin with `%`.
 
 ghost use Rattle.std.specs.Prelude.{◌≡◌, ◌<◌, MatchResult, IfOk, length, true};
-ghost use Rattle.proof_tree.specs.DocText.{bare};
-ghost use Rattle.proof_tree.specs.DocFaults.{BeginsWithLine, has_no_feed};
-ghost use Rattle.proof_tree.specs.Lines.{EndsSo};
+ghost use Rattle.proof_tree.specs.Bare.{bare};
+ghost use Rattle.proof_tree.specs.FirstFaults.{BeginsWithLine, has_no_feed};
+ghost use Rattle.proof_tree.specs.Reading.{EndsSo};
 
 use ascii_text::{front, line_len, skip};
 use term_text::starts;

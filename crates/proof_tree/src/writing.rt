@@ -3,7 +3,10 @@
 ghost use Rattle.std.specs.Prelude.{◌≡◌, ◌+◌, ◌∷◌, [], ◌++◌, All, OnOk, IfOk, map};
 ghost use Rattle.mg_word.specs.Table.{Symbol};
 ghost use Rattle.tree_checker.specs.Docs.{LineFits, IsBlock, IsWellFormed};
-ghost use Rattle.proof_tree.specs.DocText.{line_text, block_lines, blocks_lines, doc_text, ended};
+ghost use Rattle.mg_word.specs.Facts.{ProblemData};
+ghost use Rattle.mg_word.specs.Spelling.{spelled};
+ghost use Rattle.proof_tree.specs.DocLines.{line_text, ended};
+ghost use Rattle.proof_tree.specs.DocText.{tree_line, block_lines, blocks_lines, doc_text, text_of};
 
 use mg_word::{NoMemory, Problem, Symbols, push_lit};
 use std::alloc::Global;
@@ -13,7 +16,7 @@ use tree_checker::{Doc, LemmaBlock, TreeLine};
 // Appends a line of a tree, without its line feed.
 fn push_text(into: &mut Vec<u8>, symbols: &Symbols, line: &TreeLine) -> Result<(), NoMemory>
     requires { LineFits symbols.now line.now }
-    ensures { OnOk result (into.new.items ≡ into.old.items ++ line_text symbols.now line.now) }
+    ensures { OnOk result (into.new.items ≡ into.old.items ++ line_text (spelled symbols.now) (tree_line line.now)) }
 {
     match line {
         TreeLine::Form { form, subst } => {
@@ -40,7 +43,7 @@ fn push_text(into: &mut Vec<u8>, symbols: &Symbols, line: &TreeLine) -> Result<(
 // Appends a line of a tree.
 fn push_line(into: &mut Vec<u8>, symbols: &Symbols, line: &TreeLine) -> Result<(), NoMemory>
     requires { LineFits symbols.now line.now }
-    ensures { OnOk result (into.new.items ≡ into.old.items ++ (line_text symbols.now line.now ++ 10 ∷ [])) }
+    ensures { OnOk result (into.new.items ≡ into.old.items ++ (line_text (spelled symbols.now) (tree_line line.now) ++ 10 ∷ [])) }
 {
     push_text(into, symbols, line)?;
     into.push(b'\n')?;
@@ -50,7 +53,7 @@ fn push_line(into: &mut Vec<u8>, symbols: &Symbols, line: &TreeLine) -> Result<(
 // Appends the lines of a tree.
 fn push_tree(into: &mut Vec<u8>, symbols: &Symbols, lines: &[TreeLine]) -> Result<(), NoMemory>
     requires { All (LineFits symbols.now) lines.now }
-    ensures { OnOk result (into.new.items ≡ into.old.items ++ ended (map (line_text symbols.now) lines.now)) }
+    ensures { OnOk result (into.new.items ≡ into.old.items ++ ended (map (λ line. line_text (spelled symbols.now) (tree_line line)) lines.now)) }
 {
     for line in lines {
         push_line(into, symbols, line)?;
@@ -66,7 +69,7 @@ fn push_block(
     block: &LemmaBlock,
 ) -> Result<(), NoMemory>
     requires { IsBlock problem.now block.now }
-    ensures { OnOk result (into.new.items ≡ into.old.items ++ ended (block_lines problem.now.symbols number block.now)) }
+    ensures { OnOk result (into.new.items ≡ into.old.items ++ text_of problem.now (block_lines number block.now)) }
 {
     into.extend_from_slice(b"lemma ")?;
     push_number(into, number)?;
@@ -82,7 +85,7 @@ fn push_block(
 // Appends the lines of the blocks, which are numbered from 1.
 fn push_blocks(into: &mut Vec<u8>, problem: &Problem, blocks: &[LemmaBlock]) -> Result<(), NoMemory>
     requires { All (IsBlock problem.now) blocks.now }
-    ensures { OnOk result (into.new.items ≡ into.old.items ++ ended (blocks_lines problem.now.symbols 1 blocks.now)) }
+    ensures { OnOk result (into.new.items ≡ into.old.items ++ text_of problem.now (blocks_lines 1 blocks.now)) }
 {
     for (i, block) in blocks.iter().enumerate() {
         push_block(into, problem, i as u64 + 1, block)?;

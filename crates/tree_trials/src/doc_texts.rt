@@ -55,7 +55,7 @@ fn texts_have_their_answers(rt: HostRuntime) -> Result<(), Fail> {
         ("mgtp tree 1\nroots\n", Outcome::Fault(2, DocKind::Syntax)),
         (
             "mgtp tree 1\nlemma 1\n",
-            Outcome::Fault(2, DocKind::NotBuilt),
+            Outcome::Fault(3, DocKind::Early),
         ),
         (
             "mgtp tree 1\nroot\nform 1 []\nform 2 [b]\n",
@@ -67,7 +67,7 @@ fn texts_have_their_answers(rt: HostRuntime) -> Result<(), Fail> {
         ),
         (
             "mgtp tree 1\nroot\nform 1 []\n%x\nby 1\n",
-            Outcome::Fault(4, DocKind::NotBuilt),
+            Outcome::Lines(2),
         ),
         (
             "mgtp tree 1\nroot\nform 01 []\n",

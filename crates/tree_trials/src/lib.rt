@@ -2,4 +2,6 @@
 #![tactic(auto)]
 
 #[cfg(test)]
+mod block_texts;
+#[cfg(test)]
 mod doc_texts;

@@ -1,8 +1,8 @@
 use Rattle.std.proofs.Common.{◌+◌, [], ◌∷◌, length-drop, ◌++◌, length, take, drop, sym, ap, ◌∙◌, subst, arith}
 use Rattle.std.proofs.lemmas.List.{drop-drop}
-use Rattle.proof_tree.specs.DocText.{bare}
+use Rattle.proof_tree.specs.Bare.{bare}
 use Rattle.ascii_text.specs.Bytes.{is_in_line}
-use Rattle.proof_tree.specs.DocFaults.{BeginsWithLine}
+use Rattle.proof_tree.specs.FirstFaults.{BeginsWithLine}
 use Rattle.term_text.specs.Fronts.{begins_with}
 use Rattle.term_text.proofs.Texts.{cut_len, cut_whole, cut_short}
 use Rattle.proof_tree.proofs.BareLines.{line_kept, line_passed, feed_behind}

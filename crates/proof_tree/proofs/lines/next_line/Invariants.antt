@@ -1,5 +1,5 @@
 use Rattle.std.proofs.Common.{length, ◌≡◌, ◌≤◌}
-use Rattle.proof_tree.specs.DocText.{bare}
+use Rattle.proof_tree.specs.Bare.{bare}
 use Rattle.proof_tree.proofs.lines.next_line.Given as goal
 
 abbrev pub invariant-loop-rest : goal.invariant-loop-rest

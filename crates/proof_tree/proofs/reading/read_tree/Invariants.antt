@@ -1,6 +1,6 @@
 use Rattle.std.proofs.Common.{length, ◌≤◌, ◌<◌, ◌+◌, ◌*◌, ◌^◌}
-use Rattle.proof_tree.specs.DocText.{bare}
-use Rattle.proof_tree.specs.Lines.{IsTreeFront}
+use Rattle.proof_tree.specs.Bare.{bare}
+use Rattle.proof_tree.proofs.FaultsFrom.{IsTreeFront}
 use Rattle.proof_tree.proofs.reading.read_tree.Given as goal
 
 abbrev pub invariant-loop-open : goal.invariant-loop-open

@@ -1,0 +1,8 @@
+use Rattle.proof_tree.proofs.NodeLines.{clash_is, clash_fault}
+use Rattle.proof_tree.proofs.nodes.read_clash.Goals as goal
+
+pub returns-in-Ok : goal.returns-in-Ok
+returns-in-Ok c = clash_is c.args.problem.now c.args.text.now c.in-Ok.lit c.in-Ok.ensures
+
+pub returns-in-Err : goal.returns-in-Err
+returns-in-Err c = clash_fault c.args.problem.now c.args.text.now c.in-Err.fault c.in-Err.ensures
