@@ -16,7 +16,7 @@ use Rattle.clause_form.specs.declared.fault.FormFault.TheVariants.{TooHeavy, Too
 use Rattle.tree_checker.specs.declared.doc.Why.{Why}
 use Rattle.tree_checker.specs.declared.doc.Why.TheVariants.{Premise, NoClash, NotBarred, LemmaNumber, LemmaInside, LemmaOutside, Substitution}
 use Rattle.tree_checker.specs.declared.doc_fault.DocKind.{DocKind}
-use Rattle.tree_checker.specs.declared.doc_fault.DocKind.TheVariants.{Header, NotBuilt as LineNotBuilt, Syntax, Block, FormNumber, Unknown, Heavy, Order, Early, Rest}
+use Rattle.tree_checker.specs.declared.doc_fault.DocKind.TheVariants.{Header, Syntax, Block, FormNumber, Unknown, Heavy, Order, Early, Rest}
 
 -- parts, one after the other
 abbrev pub joined : List (List ℕ) → List ℕ
@@ -141,7 +141,6 @@ why_words Substitution = codes "substitution"
 -- what is wrong with a line of a tree's text, in words
 abbrev pub kind_words : DocKind → List ℕ
 kind_words Header = codes "no tree header"
-kind_words LineNotBuilt = codes "line not built yet"
 kind_words Syntax = codes "line not understood"
 kind_words Block = codes "lemma number not in order"
 kind_words FormNumber = codes "no such form"

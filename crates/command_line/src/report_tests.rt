@@ -107,7 +107,6 @@ fn wrong_lines_of_trees(rt: HostRuntime) -> Result<(), Fail> {
         (DocKind::Early, "early end"),
         (DocKind::Rest, "line after the end"),
         (DocKind::Header, "no tree header"),
-        (DocKind::NotBuilt, "line not built yet"),
         (DocKind::Syntax, "line not understood"),
         (DocKind::Block, "lemma number not in order"),
         (DocKind::FormNumber, "no such form"),

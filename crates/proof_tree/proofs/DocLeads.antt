@@ -15,7 +15,7 @@ use Rattle.tree_checker.specs.declared.doc.TreeLine.TheVariants.{Form as FormLin
 use Rattle.proof_tree.proofs.TreeCounts.{trees_left, tree_counted}
 use Rattle.proof_tree.specs.DocLines.{DocLine, header_line, lemma_line, inside_line, outside_line, root_line}
 use Rattle.tree_checker.specs.declared.doc_fault.DocKind.{DocKind}
-use Rattle.tree_checker.specs.declared.doc_fault.DocKind.TheVariants.{Header, NotBuilt, Syntax, Block, FormNumber, Unknown, Heavy, Order, Early, Rest}
+use Rattle.tree_checker.specs.declared.doc_fault.DocKind.TheVariants.{Header, Syntax, Block, FormNumber, Unknown, Heavy, Order, Early, Rest}
 use Rattle.proof_tree.specs.FirstFaults.{LineFault}
 use Rattle.proof_tree.specs.Reading.{IsTreeAt}
 use Rattle.proof_tree.specs.DocText.{lit_in_line, tree_line, block_lines, blocks_lines, doc_lines}

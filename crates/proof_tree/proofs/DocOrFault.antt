@@ -17,7 +17,7 @@ use Rattle.term_text.proofs.SymbolWords.{own_word}
 use Rattle.tree_checker.specs.Docs.{IsWellFormed}
 use Rattle.tree_checker.specs.declared.doc.Doc.{Doc}
 use Rattle.tree_checker.specs.declared.doc_fault.DocKind.{DocKind}
-use Rattle.tree_checker.specs.declared.doc_fault.DocKind.TheVariants.{Header, NotBuilt, Syntax, Block, FormNumber, Unknown, Heavy, Order, Early, Rest}
+use Rattle.tree_checker.specs.declared.doc_fault.DocKind.TheVariants.{Header, Syntax, Block, FormNumber, Unknown, Heavy, Order, Early, Rest}
 use Rattle.proof_tree.specs.DocLines.{DocLine, header_line, lemma_line, inside_line, outside_line, root_line, form_line, clash_line, barred_line, by_line, line_text, ended}
 use Rattle.term_text.specs.Lits.{LineLit, lit_text}
 use Rattle.proof_tree.specs.DocText.{doc_lines, doc_text}

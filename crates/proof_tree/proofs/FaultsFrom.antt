@@ -11,7 +11,7 @@ use Rattle.tree_checker.specs.Docs.{LineFits, IsKnown, IsBlock, AreLines}
 use Rattle.tree_checker.specs.declared.doc.LemmaBlock.{LemmaBlock}
 use Rattle.tree_checker.specs.declared.doc.TreeLine.{TreeLine}
 use Rattle.tree_checker.specs.declared.doc_fault.DocKind.{DocKind}
-use Rattle.tree_checker.specs.declared.doc_fault.DocKind.TheVariants.{Header, NotBuilt, Syntax, Block, FormNumber, Unknown, Heavy, Order, Early, Rest}
+use Rattle.tree_checker.specs.declared.doc_fault.DocKind.TheVariants.{Header, Syntax, Block, FormNumber, Unknown, Heavy, Order, Early, Rest}
 use Rattle.tree_checker.specs.declared.doc_fault.DocFault.{DocFault}
 use Rattle.tree_checker.specs.declared.doc_fault.DocFault.TheVariants.{Line, NoMemory as OutOfMemory}
 use Rattle.proof_tree.specs.DocLines.{DocLine, lemma_line, inside_line, outside_line, line_text, ended}

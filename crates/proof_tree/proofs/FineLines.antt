@@ -23,7 +23,7 @@ use Rattle.proof_tree.specs.Standing.{Place, at_header, at_block, at_inside, at_
 use Rattle.proof_tree.specs.FirstFaults.{RawLine, words_of, HasSmallNumber, IsSpelled, HasOtherNumber, HasNoForm, AreUnordered, HasNoOrder, RawFault, StandsNowhere, LineFault}
 use Rattle.term_text.specs.Lits.{AreLits, atoms}
 use Rattle.tree_checker.specs.declared.doc_fault.DocKind.{DocKind}
-use Rattle.tree_checker.specs.declared.doc_fault.DocKind.TheVariants.{Header, NotBuilt, Syntax, Block, FormNumber, Unknown, Heavy, Order, Early, Rest}
+use Rattle.tree_checker.specs.declared.doc_fault.DocKind.TheVariants.{Header, Syntax, Block, FormNumber, Unknown, Heavy, Order, Early, Rest}
 use Rattle.proof_tree.proofs.Quantified.{any_all}
 use Rattle.proof_tree.proofs.LinesApart.{HasParts, line_apart}
 use Rattle.proof_tree.proofs.RawLines.{raw_lit, raw_line, raw_kind, raw_words, raw_spelled}

@@ -22,7 +22,7 @@ use Rattle.term_text.proofs.SymbolWords.{map_map, terms_of_words, words_fit, sym
 use Rattle.tree_checker.specs.declared.doc.TreeLine.{TreeLine}
 use Rattle.tree_checker.specs.declared.doc.TreeLine.TheVariants.{Form as FormLine, Clash, Barred, By}
 use Rattle.tree_checker.specs.declared.doc_fault.DocKind.{DocKind}
-use Rattle.tree_checker.specs.declared.doc_fault.DocKind.TheVariants.{Header, NotBuilt, Syntax, Block, FormNumber, Unknown, Heavy, Order, Early, Rest}
+use Rattle.tree_checker.specs.declared.doc_fault.DocKind.TheVariants.{Header, Syntax, Block, FormNumber, Unknown, Heavy, Order, Early, Rest}
 use Rattle.proof_tree.specs.DocLines.{DocLine, header_line, lemma_line, inside_line, outside_line, root_line, form_line, clash_line, barred_line, by_line, line_text}
 use Rattle.proof_tree.specs.Standing.{in_root, kind_of, may_stand}
 use Rattle.proof_tree.specs.FirstFaults.{RawLine, IsSpelled, StandsNowhere}
@@ -126,7 +126,6 @@ module _ (problem : ProblemData) (named : list_all is_symbol problem.symbols ≡
           let some = subst (λ b. MatchBool b (Any IsHeavy read.terms) (All IsLight read.terms)) is.2 (read.verdict.flags.heavy_is is.1) in
           (form_line number read.terms, raw_form, refl, (λ none. none_some (numbered problem.forms number) none (numbered_some problem.forms number is.0), all, some))
       form_found (Err (Wrong Header)) is = absurd is
-      form_found (Err (Wrong NotBuilt)) is = absurd is
       form_found (Err (Wrong Syntax)) is = absurd is
       form_found (Err (Wrong Block)) is = absurd is
       form_found (Err (Wrong Order)) is = absurd is
@@ -165,7 +164,6 @@ module _ (problem : ProblemData) (text : List ℕ) where
   clash_fault (Wrong Unknown) is = (clash_line is.0, clash_raw is.0 is.1 is.2, refl, (λ none. none, one_some (HasUnknown problem.symbols) is.0.atom is.3))
   clash_fault (Wrong Heavy) is = (clash_line is.0, clash_raw is.0 is.1 is.2, refl, (λ none. none, All-cons (AllKnown problem.symbols) is.0.atom [] is.3 (All-nil (AllKnown problem.symbols)), one_some IsHeavy is.0.atom is.4))
   clash_fault (Wrong Header) is = absurd is
-  clash_fault (Wrong NotBuilt) is = absurd is
   clash_fault (Wrong FormNumber) is = absurd is
   clash_fault (Wrong Block) is = absurd is
   clash_fault (Wrong Order) is = absurd is
@@ -178,7 +176,6 @@ module _ (problem : ProblemData) (text : List ℕ) where
   barred_fault (Wrong Unknown) is = (barred_line is.0, barred_raw is.0 is.1 is.2, refl, (λ none. none, one_some (HasUnknown problem.symbols) is.0.atom is.3))
   barred_fault (Wrong Heavy) is = (barred_line is.0, barred_raw is.0 is.1 is.2, refl, (λ none. none, All-cons (AllKnown problem.symbols) is.0.atom [] is.3 (All-nil (AllKnown problem.symbols)), one_some IsHeavy is.0.atom is.4))
   barred_fault (Wrong Header) is = absurd is
-  barred_fault (Wrong NotBuilt) is = absurd is
   barred_fault (Wrong FormNumber) is = absurd is
   barred_fault (Wrong Block) is = absurd is
   barred_fault (Wrong Order) is = absurd is

@@ -17,7 +17,7 @@ use Rattle.term_text.specs.Lists.{NoList, AreLitsRead}
 use Rattle.term_text.specs.OwnTerms.{IsOwnTerm, HasUnknown, AllKnown, IsHeavy, IsLight}
 use Rattle.term_text.specs.Words.{IsWordOf, AreLitsOf}
 use Rattle.tree_checker.specs.declared.doc_fault.DocKind.{DocKind}
-use Rattle.tree_checker.specs.declared.doc_fault.DocKind.TheVariants.{Header, NotBuilt, Syntax, Block, FormNumber, Unknown, Heavy, Order, Early, Rest}
+use Rattle.tree_checker.specs.declared.doc_fault.DocKind.TheVariants.{Header, Syntax, Block, FormNumber, Unknown, Heavy, Order, Early, Rest}
 use Rattle.proof_tree.specs.DocLines.{DocLine, header_line, lemma_line, inside_line, outside_line, root_line, form_line, clash_line, barred_line, by_line, line_text}
 use Rattle.proof_tree.specs.DocText.{lit_in_line}
 use Rattle.proof_tree.specs.Standing.{at_block, at_inside, at_outside, in_root, kind_of, may_stand}
@@ -94,7 +94,6 @@ module _ (table : List Symbol) (named : list_all is_symbol table ≡ true) where
               (read.raws, raw_set, known_all is.0, subst (λ b. MatchBool b (Any IsHeavy (atoms read.raws)) (All IsLight (atoms read.raws))) is.1 (read.verdict.flags.heavy_is is.0))
           set_found (Err (Wrong Order)) is = (read.raws, raw_set, known_all is.0, light_all is.0 is.1, (lits, read.verdict.lits_are is.0 is.1, is.2))
           set_found (Err (Wrong Header)) is = absurd is
-          set_found (Err (Wrong NotBuilt)) is = absurd is
           set_found (Err (Wrong Syntax)) is = absurd is
           set_found (Err (Wrong Block)) is = absurd is
           set_found (Err (Wrong FormNumber)) is = absurd is

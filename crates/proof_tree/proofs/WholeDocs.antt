@@ -8,7 +8,7 @@ use Rattle.tree_checker.specs.declared.doc.Doc.{Doc}
 use Rattle.tree_checker.specs.declared.doc.LemmaBlock.{LemmaBlock}
 use Rattle.tree_checker.specs.declared.doc.TreeLine.{TreeLine}
 use Rattle.tree_checker.specs.declared.doc_fault.DocKind.{DocKind}
-use Rattle.tree_checker.specs.declared.doc_fault.DocKind.TheVariants.{Header, NotBuilt, Syntax, Block, FormNumber, Unknown, Heavy, Order, Early, Rest}
+use Rattle.tree_checker.specs.declared.doc_fault.DocKind.TheVariants.{Header, Syntax, Block, FormNumber, Unknown, Heavy, Order, Early, Rest}
 use Rattle.tree_checker.specs.declared.doc_fault.DocFault.{DocFault}
 use Rattle.tree_checker.specs.declared.doc_fault.DocFault.TheVariants.{Line, NoMemory}
 use Rattle.proof_tree.specs.Bare.{Spot, start, kept, passed, next_spot, kept_byte, bare_from, bare}

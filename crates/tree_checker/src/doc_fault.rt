@@ -8,8 +8,6 @@ use thiserror::Error;
 pub enum DocKind {
     /// The first line is not the header.
     Header,
-    /// The line is of a kind that is not read yet.
-    NotBuilt,
     /// The line may not stand here, or is not in its one spelling.
     Syntax,
     /// The block's number is not the next.

@@ -42,7 +42,6 @@ fn kind_words(kind: DocKind) -> &'static str
 {
     match kind {
         DocKind::Header => "no tree header",
-        DocKind::NotBuilt => "line not built yet",
         DocKind::Syntax => "line not understood",
         DocKind::Block => "lemma number not in order",
         DocKind::FormNumber => "no such form",

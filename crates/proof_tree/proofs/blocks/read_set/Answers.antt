@@ -1,8 +1,8 @@
-use Rattle.std.proofs.Common.{◌≡◌, true, ap, subst}
+use Rattle.std.proofs.Common.{◌≡◌, true, subst}
 use Rattle.std.specs.List.{list_all}
 use Rattle.mg_word.specs.Facts.{is_symbol}
 use Rattle.term_text.specs.Lists.{AreLitsRead}
-use Rattle.proof_tree.proofs.SetLines.{no_word, no_bracket, no_lits, set_found}
+use Rattle.proof_tree.proofs.SetLines.{no_bracket, no_lits, set_found}
 use Rattle.proof_tree.proofs.blocks.read_set.Goals as goal
 
 pub returns-in_default-strip : goal.returns-in_default-strip

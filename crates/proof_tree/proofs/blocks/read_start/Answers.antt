@@ -1,5 +1,5 @@
-use Rattle.std.proofs.Common.{◌≡◌, suc, sym, ap, ◌∙◌, codes, arith}
-use Rattle.proof_tree.proofs.SetLines.{start_nowhere, number_nowhere, other_block}
+use Rattle.std.proofs.Common.{◌∙◌}
+use Rattle.proof_tree.proofs.SetLines.{other_block}
 use Rattle.proof_tree.proofs.blocks.read_start.Goals as goal
 
 pub returns-then-from-number : goal.returns-then-from-number

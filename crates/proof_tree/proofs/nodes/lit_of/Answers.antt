@@ -1,6 +1,6 @@
 use Rattle.std.proofs.Common.{◌≡◌, true, subst}
 use Rattle.std.specs.List.{list_all}
-use Rattle.mg_word.specs.Facts.{ProblemData, is_symbol}
+use Rattle.mg_word.specs.Facts.{is_symbol}
 use Rattle.term_text.specs.Lists.{IsLitRead}
 use Rattle.term_text.specs.declared.lits.FoundLit.TheVariants.{Heavy, Lit as OneLit}
 use Rattle.proof_tree.proofs.NodeLines.{lit_spelled}

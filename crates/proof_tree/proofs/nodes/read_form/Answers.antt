@@ -1,4 +1,4 @@
-use Rattle.std.proofs.Common.{◌≡◌, true, length, sym, ap, ◌∙◌, subst}
+use Rattle.std.proofs.Common.{◌≡◌, true, length, ap, ◌∙◌, subst}
 use Rattle.std.specs.List.{list_all}
 use Rattle.mg_word.specs.Facts.{is_symbol}
 use Rattle.term_text.specs.Lists.{IsListRead}

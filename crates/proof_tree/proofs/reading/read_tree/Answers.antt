@@ -1,4 +1,4 @@
-use Rattle.std.proofs.Common.{◌≡◌, ◌+◌, ◌-◌, ◌++◌, ◌∷◌, [], refl, ap, length, length-append, arith}
+use Rattle.std.proofs.Common.{◌≡◌, ◌+◌, ◌-◌, ◌∷◌, [], refl, ap, length, length-append, arith}
 use Rattle.proof_tree.specs.Bare.{bare}
 use Rattle.proof_tree.proofs.FaultsFrom.{tree_goes_on, tree_early, tree_wrong, tree_ends}
 use Rattle.proof_tree.proofs.reading.read_tree.Goals as goal

@@ -1,4 +1,4 @@
-use Rattle.std.proofs.Common.{map, ap, sym, ◌∙◌}
+use Rattle.std.proofs.Common.{map, ap}
 use Rattle.std.specs.Fmt.{decimal}
 use Rattle.mg_word.specs.Spelling.{spelled}
 use Rattle.term_text.specs.Brackets.{listed}

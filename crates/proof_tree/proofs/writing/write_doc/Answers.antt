@@ -1,4 +1,4 @@
-use Rattle.std.proofs.Common.{map, ap, sym, ◌∙◌}
+use Rattle.std.proofs.Common.{ap}
 use Rattle.proof_tree.specs.DocText.{tree_line}
 use Rattle.proof_tree.proofs.Written.{doc_written, mapped_text}
 use Rattle.proof_tree.proofs.writing.write_doc.Goals as goal
