@@ -16,3 +16,4 @@ pub mod SetLines
 pub mod FaultsFrom
 pub mod BareLength
 pub mod WholeDocs
+pub mod Remarks

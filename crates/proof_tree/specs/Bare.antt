@@ -1,5 +1,6 @@
 -- A text without its lines that begin with `%`.
 use Rattle.std.specs.Prelude.{ℕ, nat_eq, List, [], ◌∷◌, ◌++◌, if◌then◌else◌}
+use Rattle.term_text.specs.Fronts.{begins_with}
 
 -- where a byte stands: at the start of a line, further on in a line that counts, or in one that is passed over
 pub data Spot : Type 0 where
@@ -26,3 +27,8 @@ bare_from spot (byte ∷ bytes) = kept_byte spot byte ++ bare_from (next_spot sp
 -- the text without its lines that begin with `%`
 abbrev pub bare : List ℕ → List ℕ
 bare bytes = bare_from start bytes
+
+-- of lines those that do not begin with `%`
+abbrev pub counted : List (List ℕ) → List (List ℕ)
+counted [] = []
+counted (line ∷ lines) = if begins_with (37 ∷ []) line then counted lines else line ∷ counted lines

@@ -68,7 +68,6 @@ pub fn read_set(
     ensures { MatchResult result (IsSetText problem.now.symbols word.now line.now) (IsNoSetText problem.now.symbols word.now line.now) }
 {
     let symbols = &problem.symbols;
-    let _count = symbols.len();
     let Some(behind) = strip(line, word) else {
         return Err(LineFault::Wrong(DocKind::Syntax));
     };

@@ -5,7 +5,7 @@ ghost use Rattle.mg_word.specs.Facts.{IsProblem, ProblemData};
 ghost use Rattle.tree_checker.specs.Docs.{IsWellFormed};
 ghost use Rattle.proof_tree.specs.FirstFaults.{IsDocFault};
 ghost use Rattle.proof_tree.specs.DocText.{doc_text};
-ghost use Rattle.proof_tree.specs.LineLaws.{LinesAreSpelledApart, DocumentsLeadToTheirEnd, DocumentsHaveNoFirstFault};
+ghost use Rattle.proof_tree.specs.LineLaws.{LinesAreSpelledApart, DocumentsLeadToTheirEnd, DocumentsHaveNoFirstFault, DocumentsHaveTheirTexts, DocumentsStandAmongRemarks};
 
 use tree_checker::{Doc, DocFault};
 
@@ -32,4 +32,14 @@ pub fn documents_lead_to_their_end()
 /// The text of a well-formed document has no first fault.
 pub fn documents_have_no_first_fault()
     ensures { DocumentsHaveNoFirstFault }
+{}
+
+/// The text of a well-formed document, as it is written, is that of the document, so that it is read as it again.
+pub fn documents_have_their_texts()
+    ensures { DocumentsHaveTheirTexts }
+{}
+
+/// Lines that begin with `%` may stand between the lines of a document.
+pub fn documents_stand_among_remarks()
+    ensures { DocumentsStandAmongRemarks }
 {}

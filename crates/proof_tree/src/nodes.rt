@@ -52,7 +52,6 @@ fn read_form(
     ensures { MatchResult result (IsNode problem.now (codes "form " ++ text.now)) (IsNoNode problem.now (codes "form " ++ text.now)) }
 {
     let symbols = &problem.symbols;
-    let _count = symbols.len();
     let forms = problem.forms.as_slice().len();
     let Some((number, list)) = parts_of(text) else {
         return Err(LineFault::Wrong(DocKind::Syntax));
@@ -73,7 +72,6 @@ fn lit_of(
     ensures { MatchResult result (IsLitText problem.now.symbols text.now) (IsNoLitText problem.now.symbols text.now) }
 {
     let symbols = &problem.symbols;
-    let _count = symbols.len();
     match read_lit(alloc, text, symbols, buffers)? {
         None => Err(LineFault::Wrong(DocKind::Syntax)),
         Some(FoundLit::Unknown) => Err(LineFault::Wrong(DocKind::Unknown)),
