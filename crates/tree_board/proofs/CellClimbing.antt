@@ -1,14 +1,15 @@
 -- The climb of the cells is that of the board that they stand for.
-use Rattle.std.proofs.Common.{◌≡◌, ℕ, ◌+◌, ◌<◌, Bool, true, false, true≢false, cond, nat_eq, List, [], ◌∷◌, length, is_some, slice_get, Option, Some, None, if◌then◌else◌, refl, sym, ap, subst, ◌∙◌, arith}
+use Rattle.std.proofs.Common.{◌≡◌, ℕ, ◌+◌, ◌<◌, Bool, true, false, true≢false, cond, nat_eq, List, [], ◌∷◌, ◌++◌, length, is_some, slice_get, Option, Some, None, if◌then◌else◌, refl, sym, ap, subst, ◌∙◌, arith}
 use Rattle.std.specs.Prelude.{option_and_then}
 use Rattle.std.proofs.lemmas.Bool.{eqb-true, eq-eqb}
+use Rattle.std.proofs.lemmas.List.{append-nil}
 use Rattle.std.proofs.lemmas.Option.{slice_get_within}
 use Rattle.mg_meaning.specs.Folding.{Pair}
 use Rattle.case_split.specs.declared.child.Closure.{Closure}
 use Rattle.tree_board.specs.declared.cell.Cell.{Cell}
 use Rattle.tree_board.specs.declared.event.Event.{Event}
 use Rattle.tree_board.specs.Boards.{Board, own_of, is_closed}
-use Rattle.tree_board.specs.CellClimbs.{due_cell, CloseBy, up_from, next_up}
+use Rattle.tree_board.specs.CellClimbs.{due_cell, CloseBy, up_from, next_up, Climbs, ClimbsOn}
 use Rattle.tree_board.specs.Cells.{StandsFor, StandForBoard, parent_of}
 use Rattle.tree_board.specs.Closings.{due, closed_by, closed_node, closed_at, climb}
 use Rattle.tree_board.specs.Facts.{IsPath, IsBoard}
@@ -36,6 +37,11 @@ abbrev pub Reaches : List Event → ℕ → List Cell → List Pair → List ℕ
 Reaches journal start cells lemmas owners number now_cells now_lemmas now_owners =
     (search : Search) (board : Board) (node : Node) (closures : List Closure) → IsBoard (setting_of search) board → slice_get board.nodes start ≡ Some node → StandForBoard journal board cells closures lemmas owners
     → IsReached search journal closures (climb (setting_of search) node.path board) number now_cells now_lemmas now_owners
+
+-- the same where so many lemmas were kept before, and these are to be kept after them
+abbrev pub ReachesOn : List Event → ℕ → ℕ → List Cell → List Pair → List ℕ → ℕ → List Cell → List Pair → List ℕ → Type 0
+ReachesOn journal start count cells more nodes number now_cells now_more now_nodes =
+    (lemmas : List Pair) (owners : List ℕ) → length lemmas ≡ count → Reaches journal start cells (lemmas ++ more) (owners ++ nodes) number now_cells (lemmas ++ now_more) (owners ++ now_nodes)
 
 pub reaches_start : (journal : List Event) (start : ℕ) (cells : List Cell) (lemmas : List Pair) (owners : List ℕ) → Reaches journal start cells lemmas owners start cells lemmas owners
 reaches_start journal start cells lemmas owners search board node closures facts at stand = record { board = board; node = node; facts = facts; is = at; stand = stand; same = refl }
@@ -183,3 +189,13 @@ module _ (search : Search) (journal : List Event) (closures : List Closure) (tar
               },
               omega (arith, low, high, number_is),
             )
+
+-- what was to be kept is kept
+pub climbs_installed : (journal : List Event) (start count : ℕ) (cells : List Cell) (none : List Pair) → none ≡ [] → (no_nodes : List ℕ) → no_nodes ≡ [] → (new_cells : List Cell) (more : List Pair) (nodes : List ℕ) → ClimbsOn journal start count cells none no_nodes new_cells more nodes
+    → (lemmas : List Pair) (owners : List ℕ) → length lemmas ≡ count → (new_lemmas : List Pair) → new_lemmas ≡ lemmas ++ more → (new_owners : List ℕ) → new_owners ≡ owners ++ nodes → Climbs journal start cells lemmas owners new_cells new_lemmas new_owners
+climbs_installed journal start count cells none none_is no_nodes no_nodes_is new_cells more nodes climbs lemmas owners size new_lemmas lemmas_are new_owners owners_are search board node closures facts at stand =
+    let lemmas_same : lemmas ++ none ≡ lemmas = ap (λ some. lemmas ++ some) none_is ∙ append-nil lemmas in
+    let owners_same : owners ++ no_nodes ≡ owners = ap (λ some. owners ++ some) no_nodes_is ∙ append-nil owners in
+    let before = subst (λ some. StandForBoard journal board cells closures some (owners ++ no_nodes)) (sym lemmas_same) (subst (λ some. StandForBoard journal board cells closures lemmas some) (sym owners_same) stand) in
+    let after = climbs lemmas owners size search board node closures facts at before in
+    subst (λ some. StandForBoard journal (climb (setting_of search) node.path board) new_cells closures some new_owners) (sym lemmas_are) (subst (λ some. StandForBoard journal (climb (setting_of search) node.path board) new_cells closures (lemmas ++ more) some) (sym owners_are) after)

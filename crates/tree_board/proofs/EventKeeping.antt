@@ -10,7 +10,7 @@ use Rattle.tree_board.specs.declared.cell.Settled.{Settled}
 use Rattle.tree_board.specs.declared.event.Event.{Event}
 use Rattle.tree_board.specs.Boards.{Board, Kept, count, opening}
 use Rattle.tree_board.specs.CellClimbs.{StandSomewhere, Climbs}
-use Rattle.tree_board.specs.CellMoves.{settled_as, lemma_made, settled_cell, AreSettled, place_after, cells_of_cases, closures_of, cases_made, AreCases}
+use Rattle.tree_board.specs.CellMoves.{settled_as, lemma_made, settled_cell, place_after, cells_of_cases, closures_of, cases_made, AreCases}
 use Rattle.tree_board.specs.Cells.{StandForNodes, StandForBoard}
 use Rattle.tree_board.specs.Children.{nodes_of_cases}
 use Rattle.tree_board.specs.Closings.{due, closed_by, closed_node, closed_at, climb}
@@ -33,6 +33,10 @@ use Rattle.tree_board.proofs.Moving.{moved_board}
 use Rattle.tree_board.proofs.Places.{length-slice_set, there_now}
 use Rattle.tree_board.proofs.Replays.{climb_keeps, effect_is}
 use Rattle.tree_board.proofs.Settling.{settled_keeps}
+
+-- the cells with that one settled
+abbrev pub AreSettled : List Cell → ℕ → Settled → Option Pair → List Cell → Type 0
+AreSettled old number settled lemma new = (cell : Cell) → slice_get old number ≡ Some cell → new ≡ slice_set old number (settled_cell settled lemma cell)
 
 -- ---- sizes
 

@@ -33,6 +33,7 @@ pub mod Ways
 pub mod CellMoves
 pub mod KeptNumbers
 pub mod CaseCells
+pub mod Restores
 pub mod CellClosings
 pub mod CellClimbing
 pub mod EventKeeping

@@ -1,10 +1,12 @@
 -- Closings upwards, of the cells and the kept lemmas.
-use Rattle.std.specs.Prelude.{◌≡◌, ℕ, suc, nat_eq, cond, Bool, true, false, List, [], ◌∷◌, ◌++◌, length, slice_get, slice_set, Option, Some, None, option_map, option_and_then}
+use Rattle.std.specs.Prelude.{◌≡◌, ◌<◌, ◌≤◌, ◌+◌, ℕ, suc, nat_eq, cond, Bool, true, false, List, [], ◌∷◌, ◌++◌, length, slice_get, slice_set, Option, Some, None, option_map, option_and_then}
 use Rattle.mg_word.specs.declared.form.Inst.{Inst}
 use Rattle.mg_word.specs.declared.lit.Lit.{Lit}
 use Rattle.mg_meaning.specs.Folding.{Pair, folded}
 use Rattle.case_split.specs.declared.child.Closure.{Closure}
+use Rattle.branch_lemmas.specs.declared.index.TheConstants.{MOST_LEMMAS}
 use Rattle.tree_board.specs.Boards.{Board}
+use Rattle.tree_board.specs.CellMoves.{grown}
 use Rattle.tree_board.specs.Cells.{StandForBoard}
 use Rattle.tree_board.specs.Closings.{climb, cons_pair}
 use Rattle.tree_board.specs.Facts.{IsBoard}
@@ -13,6 +15,8 @@ use Rattle.tree_board.specs.Readers.{first_child_of_cell, instance_shown}
 use Rattle.tree_board.specs.Searches.{Search, setting_of}
 use Rattle.tree_board.specs.Settings.{small}
 use Rattle.tree_board.specs.declared.cell.Cell.{Cell}
+use Rattle.tree_board.specs.declared.cell.Settled.{Settled}
+use Rattle.tree_board.specs.declared.cell_climb.Before.{Before}
 use Rattle.tree_board.specs.declared.event.Event.{Event}
 
 -- ---- closing one cell
@@ -69,6 +73,20 @@ up_from number cell = cond (nat_eq number 0) None (cond cell.is_closed (Some cel
 abbrev pub next_up : List Cell → ℕ → Option ℕ
 next_up cells number = option_and_then (up_from number) (slice_get cells number)
 
+-- the same where so many lemmas were kept before, and these lemmas, of these nodes, are to be kept after them
+abbrev pub Closes : List Event → ℕ → ℕ → List Cell → List Pair → List ℕ → List Cell → List Pair → List ℕ → Type 0
+Closes journal number count cells more nodes new_cells new_more new_nodes =
+    (lemmas : List Pair) (owners : List ℕ) → length lemmas ≡ count → CloseBy (due_cell cells journal number) number cells (lemmas ++ more) (owners ++ nodes) new_cells (lemmas ++ new_more) (owners ++ new_nodes)
+
+-- where so many lemmas were kept before and any is to be kept after them, there are not too many together
+abbrev pub AreFew : ℕ → List Pair → Type 0
+AreFew count more = 0 < length more → count + length more ≤ MOST_LEMMAS
+
+-- the cells with those put back that the climb replaced, the last one first
+abbrev pub restored : List Before → List Cell → List Cell
+restored [] cells = cells
+restored (one ∷ more) cells = slice_set (restored more cells) one.node one.cell
+
 -- some board with a node of this number is what the cells and the kept lemmas stand for
 pub record StandSomewhere (journal : List Event) (number : ℕ) (cells : List Cell) (lemmas : List Pair) (owners : List ℕ) : Type 0 where
   pub search : Search
@@ -84,3 +102,25 @@ abbrev pub Climbs : List Event → ℕ → List Cell → List Pair → List ℕ 
 Climbs journal number cells lemmas owners new_cells new_lemmas new_owners =
     (search : Search) (board : Board) (node : Node) (closures : List Closure) → IsBoard (setting_of search) board → slice_get board.nodes number ≡ Some node → StandForBoard journal board cells closures lemmas owners
     → StandForBoard journal (climb (setting_of search) node.path board) new_cells closures new_lemmas new_owners
+
+-- the same where so many lemmas were kept before, and these lemmas, of these nodes, are to be kept after them
+pub record StandsOn (journal : List Event) (number count : ℕ) (cells : List Cell) (more : List Pair) (nodes : List ℕ) : Type 0 where
+  pub lemmas : List Pair
+  pub owners : List ℕ
+  pub size : length lemmas ≡ count
+  pub some : StandSomewhere journal number cells (lemmas ++ more) (owners ++ nodes)
+
+abbrev pub ClimbsOn : List Event → ℕ → ℕ → List Cell → List Pair → List ℕ → List Cell → List Pair → List ℕ → Type 0
+ClimbsOn journal number count cells more nodes new_cells new_more new_nodes =
+    (lemmas : List Pair) (owners : List ℕ) → length lemmas ≡ count → Climbs journal number cells (lemmas ++ more) (owners ++ nodes) new_cells (lemmas ++ new_more) (owners ++ new_nodes)
+
+-- ---- a whole event
+
+-- with the node settled and its children added, some board is what the cells and the kept lemmas stand for
+abbrev pub StandGrown : List Event → ℕ → List Cell → Settled → Option Pair → List Cell → List Pair → List ℕ → Type 0
+StandGrown journal number cells settled lemma children lemmas owners = (cell : Cell) → slice_get cells number ≡ Some cell → StandSomewhere journal number (grown cells number settled lemma cell children) lemmas owners
+
+-- and then they are climbed
+abbrev pub Grow : List Event → ℕ → List Cell → Settled → Option Pair → List Cell → List Pair → List ℕ → List Cell → List Pair → List ℕ → Type 0
+Grow journal number cells settled lemma children lemmas owners new_cells new_lemmas new_owners =
+    (cell : Cell) → slice_get cells number ≡ Some cell → Climbs journal number (grown cells number settled lemma cell children) lemmas owners new_cells new_lemmas new_owners

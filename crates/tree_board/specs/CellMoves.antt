@@ -1,5 +1,5 @@
 -- An event's move, of the cells.
-use Rattle.std.specs.Prelude.{◌≡◌, ℕ, suc, true, false, List, [], ◌∷◌, is_some, slice_get, slice_set, Option, Some, None}
+use Rattle.std.specs.Prelude.{◌≡◌, ℕ, suc, true, false, List, [], ◌∷◌, ◌++◌, is_some, slice_get, slice_set, Option, Some, None}
 use Rattle.mg_word.specs.Words.{numbered}
 use Rattle.mg_word.specs.declared.lit.Lit.{Lit}
 use Rattle.mg_meaning.specs.Folding.{Pair, rejecting}
@@ -40,10 +40,6 @@ lemma_made lemmas (TooHeavy number inst) = None
 abbrev pub settled_cell : Settled → Option Pair → Cell → Cell
 settled_cell settled lemma cell = record { parent = cell.parent; settled = settled; is_closed = is_some lemma; lemma = lemma; own_lemma = cell.own_lemma }
 
--- the cells with that one settled
-abbrev pub AreSettled : List Cell → ℕ → Settled → Option Pair → List Cell → Type 0
-AreSettled old number settled lemma new = (cell : Cell) → slice_get old number ≡ Some cell → new ≡ slice_set old number (settled_cell settled lemma cell)
-
 -- ---- the cells of the children
 
 -- the cell of a child, whose reason to be closed at once goes to that place
@@ -80,3 +76,7 @@ cases_made lits barred (TooHeavy number inst) = []
 -- the cases that the event makes at its node
 abbrev pub AreCases : Board → Event → List Child → Type 0
 AreCases board event cases = (node : Node) → slice_get board.nodes (node_of event) ≡ Some node → cases ≡ cases_made node.lits node.barred event
+
+-- the cells with that one settled and those of its children added
+abbrev pub grown : List Cell → ℕ → Settled → Option Pair → Cell → List Cell → List Cell
+grown cells number settled lemma cell children = slice_set (cells ++ children) number (settled_cell settled lemma cell)

@@ -1,7 +1,7 @@
 //! An event's move, of the cells.
 
-ghost use Rattle.std.specs.Prelude.{◌≡◌, ◌∷◌, ◌++◌, ◌+◌, ◌<◌, ◌^◌, [], IfOk, OnOk, length};
-ghost use Rattle.tree_board.specs.CellMoves.{settled_as, AreSettled, born_cell, cells_of_cases, with_closure, closures_of};
+ghost use Rattle.std.specs.Prelude.{◌≡◌, ◌∷◌, ◌++◌, ◌+◌, ◌<◌, ◌^◌, [], IfOk, OnOk, Some, length, slice_get, slice_set};
+ghost use Rattle.tree_board.specs.CellMoves.{settled_as, settled_cell, born_cell, cells_of_cases, with_closure, closures_of};
 
 use crate::Event;
 use crate::cell::{Cell, Settled};
@@ -9,6 +9,7 @@ use branch_lemmas::{Lemma, closure_lemma};
 use case_split::{Child, Closure};
 use mg_word::NoMemory;
 use std::alloc::Global;
+use std::mem;
 
 /// What settles the event's node, where the journal has so many events and the board so many nodes.
 pub fn settled_as(event: &Event, events: u32, nodes: u32) -> Settled
@@ -27,15 +28,31 @@ pub fn settled_as(event: &Event, events: u32, nodes: u32) -> Settled
     }
 }
 
-/// Settles the cell with this number, and closes it where there is a lemma.
-pub fn settle(cells: &mut Vec<Cell>, node: u32, settled: Settled, lemma: Option<Lemma>)
+/// Puts this cell in place of the one with the number, and answers that one.
+pub fn replaced(cells: &mut Vec<Cell>, node: u32, cell: Cell) -> Cell
     requires { node < length cells.old.items }
-    ensures { AreSettled cells.old.items node settled lemma cells.new.items }
+    ensures was { slice_get cells.old.items node ≡ Some result }
+    ensures now { cells.new.items ≡ slice_set cells.old.items node cell }
 {
-    let cell = &mut cells[node as usize];
-    cell.settled = settled;
-    cell.is_closed = lemma.is_some();
-    cell.lemma = lemma;
+    mem::replace(&mut cells[node as usize], cell)
+}
+
+/// Settles the cell with this number, and closes it where there is a lemma. Answers the cell as it was.
+pub fn settle(cells: &mut Vec<Cell>, node: u32, settled: Settled, lemma: Option<Lemma>) -> Cell
+    requires { node < length cells.old.items }
+    ensures was { slice_get cells.old.items node ≡ Some result }
+    ensures now { cells.new.items ≡ slice_set cells.old.items node (settled_cell settled lemma result) }
+{
+    let parent = cells[node as usize].parent;
+    let own_lemma = cells[node as usize].own_lemma;
+    let cell = Cell {
+        parent,
+        settled,
+        is_closed: lemma.is_some(),
+        lemma,
+        own_lemma,
+    };
+    replaced(cells, node, cell)
 }
 
 // The cell of a child. Its reason to be closed at once goes to that place.
@@ -74,22 +91,25 @@ fn push_reason(closures: &mut Vec<Closure>, at_once: Option<Closure>) -> Result<
     Ok(())
 }
 
-/// Adds the cells of these cases, and the reasons of those that are closed at once.
-pub fn push_children(
-    alloc: Global,
-    cells: &mut Vec<Cell>,
-    closures: &mut Vec<Closure>,
-    parent: u32,
-    cases: Vec<Child>,
-) -> Result<(), NoMemory>
-    requires { length closures.old.items + length cases.items < 2 ^ 32 }
-    ensures cells { OnOk result (cells.new.items ≡ cells.old.items ++ cells_of_cases parent (length closures.old.items) cases.items) }
-    ensures closures { OnOk result (closures.new.items ≡ closures.old.items ++ closures_of cases.items) }
+/// The cells of cases, and the reasons of those that are closed at once.
+#[derive(Debug, Drop)]
+pub struct Children {
+    pub cells: Vec<Cell>,
+    pub closures: Vec<Closure>,
+}
+
+/// The cells of these cases, whose reasons go to places from there on.
+pub fn born(alloc: Global, parent: u32, first: u32, cases: Vec<Child>) -> Result<Children, NoMemory>
+    requires { first + length cases.items < 2 ^ 32 }
+    ensures cells { IfOk result (λ children. children.cells.items ≡ cells_of_cases parent first cases.items) }
+    ensures closures { IfOk result (λ children. children.closures.items ≡ closures_of cases.items) }
 {
+    let mut cells = Vec::with_capacity(alloc, cases.len())?;
+    let mut closures = Vec::new(alloc);
     'cases: for case in cases {
-        let place = closures.len() as u32;
+        let place = first + closures.len() as u32;
         cells.push(born_cell(alloc, parent, place, &case.at_once)?)?;
-        push_reason(closures, case.at_once)?;
+        push_reason(&mut closures, case.at_once)?;
     }
-    Ok(())
+    Ok(Children { cells, closures })
 }

@@ -1,12 +1,13 @@
 //! Boards with one event more.
 
-ghost use Rattle.std.specs.Prelude.{◌≡◌, ◌∷◌, ◌++◌, [], IfOk, map};
+ghost use Rattle.std.specs.Prelude.{◌≡◌, ◌∷◌, ◌++◌, [], IfOk, OnErr, OnOk, map};
 ghost use Rattle.tree_board.specs.CellMoves.{AreCases, lemma_made};
 ghost use Rattle.tree_board.specs.Lawful.{IsLawful};
 ghost use Rattle.tree_board.specs.Searches.{setting_of, board_of};
 
-use crate::cell_climb::{climb, copied};
-use crate::cell_moves::{push_children, settle, settled_as};
+use crate::cell_climb::copied;
+use crate::cell_growth::{Change, grow};
+use crate::cell_moves::{born, settled_as};
 use crate::{Board, Event};
 use branch_lemmas::{Lemma, leaf_lemma};
 use case_split::{Child, children};
@@ -44,49 +45,50 @@ impl Board {
         }
     }
 
-    /// The board with this event, which may come next: its node is settled, its children are born, and all closings follow.
-    /// After want of memory the board is dropped.
-    pub(crate) fn with(self, alloc: Global, event: Event) -> Result<Board, NoMemory>
-        requires { IsLawful (setting_of self) (board_of self) event }
-        ensures { IfOk result (λ board. board ≡ record self { journal = self.journal ++ event ∷ [] }) }
+    /// Adds this event, which may come next: its node is settled, its children are born, and all closings follow. After want
+    /// of memory the board is as before.
+    pub(crate) fn append(&mut self, alloc: Global, event: Event) -> Result<(), NoMemory>
+        requires { IsLawful (setting_of self.old) (board_of self.old) event }
+        ensures ok { OnOk result (self.new ≡ record self.old { journal = self.old.journal ++ event ∷ [] }) }
+        ensures err { OnErr result (self.new ≡ self.old) }
     {
         let node = event.node();
         let cases = self.cases(alloc, &event)?;
         let lemma = self.lemma_made(alloc, &event)?;
-        let Board {
-            problem,
-            mode,
-            limits,
-            mut cells,
-            mut journal,
-            mut closures,
-            mut lemmas,
-            mut lemma_nodes,
-            count,
-        } = self;
-        let settled = settled_as(&event, journal.len() as u32, cells.len() as u32);
-        settle(&mut cells, node, settled, lemma);
-        push_children(alloc, &mut cells, &mut closures, node, cases)?;
-        let count = count + event.extensions();
-        journal.push(event)?;
-        climb(
-            alloc,
-            &mut cells,
-            journal.as_slice(),
-            &mut lemmas,
-            &mut lemma_nodes,
+        let children = born(alloc, node, self.closures.len() as u32, cases)?;
+        let settled = settled_as(&event, self.journal.len() as u32, self.cells.len() as u32);
+        let added = event.extensions();
+        self.journal.push(event)?;
+        let change = Change {
             node,
-        )?;
-        Ok(Board {
-            problem,
-            mode,
-            limits,
-            cells,
-            journal,
-            closures,
-            lemmas,
-            lemma_nodes,
-            count,
-        })
+            settled,
+            lemma,
+            children,
+        };
+        let outcome = grow(
+            alloc,
+            &mut self.cells,
+            &mut self.closures,
+            self.journal.as_slice(),
+            &mut self.lemmas,
+            &mut self.lemma_nodes,
+            change,
+        );
+        if outcome.is_err() {
+            let _ = self.journal.pop();
+            return Err(NoMemory);
+        }
+        self.count += added;
+        Ok(())
+    }
+
+    /// The board with this event, which may come next. After want of memory the board is dropped.
+    pub(crate) fn with(self, alloc: Global, event: Event) -> Result<Board, NoMemory>
+        requires { IsLawful (setting_of self) (board_of self) event }
+        ensures { IfOk result (λ board. board ≡ record self { journal = self.journal ++ event ∷ [] }) }
+    {
+        let mut board = self;
+        board.append(alloc, event)?;
+        Ok(board)
     }
 }

@@ -6,6 +6,7 @@ mod barring;
 mod board;
 mod cell;
 mod cell_climb;
+mod cell_growth;
 mod cell_moves;
 mod event;
 mod growing;

@@ -1,26 +1,11 @@
-use Rattle.std.proofs.Common.{ap, ◌∙◌}
-use Rattle.tree_board.specs.CellClimbs.{next_up}
-use Rattle.tree_board.proofs.CellClimbing.{goes_on, reached_within, reaches_start, stops}
+use Rattle.std.proofs.Common.{sym, ◌∙◌}
+use Rattle.tree_board.proofs.CellClimbing.{climbs_installed}
+use Rattle.tree_board.proofs.Restores.{on_ok}
 use Rattle.tree_board.proofs.cell_climb.climb.Goals as goal
 
-pub up-init : goal.up-init
-up-init c = reaches_start _ _ _ _ _
-
-pub close-requires : goal.close-requires
-close-requires c =
-    let some = c.requires in
-    reached_within _ _ _ _ _ _ _ _ (c.up.invariant some.search some.board some.node some.closures some.facts some.is some.stand)
-
-pub up-smaller : goal.up-smaller
-up-smaller c =
-    let some = c.requires in
-    let reached = c.up.invariant some.search some.board some.node some.closures some.facts some.is some.stand in
-    (goes_on _ _ _ _ _ _ _ _ reached _ _ _ c.in_ok-close.ensures c.in-Some.parent (c.in-Some.ensures ∙ ap (λ all. next_up all c.up.at) c.as_slice.ensures.value)).1
-
-pub up-preserved : goal.up-preserved
-up-preserved c = λ search board node closures facts at stand.
-    (goes_on _ _ _ _ _ _ _ _ (c.up.invariant search board node closures facts at stand) _ _ _ c.in_ok-close.ensures c.in-Some.parent (c.in-Some.ensures ∙ ap (λ all. next_up all c.up.at) c.as_slice.ensures.value)).0
-
-pub returns-in-None : goal.returns-in-None
-returns-in-None c = λ search board node closures facts at stand.
-    stops _ _ _ _ _ _ _ _ (c.up.invariant search board node closures facts at stand) _ _ _ c.in_ok-close.ensures (c.in-None.ensures ∙ ap (λ all. next_up all c.up.at) c.as_slice.ensures.value)
+pub returns-clause-ok : goal.returns-clause-ok
+returns-clause-ok c =
+    let went = on_ok _ _ (sym c.is_err.ensures.value ∙ c.if-is_err.false) c.go_up-outcome.ensures.ok in
+    let lemmas = on_ok _ _ (sym c.is_err-else-is_err.ensures.value ∙ c.if-is_err-2.false) c.install.ensures.lemmas_ok in
+    let nodes = on_ok _ _ (sym c.is_err-else-is_err.ensures.value ∙ c.if-is_err-2.false) c.install.ensures.nodes_ok in
+    climbs_installed _ _ _ _ _ c.new-2.ensures.items _ c.new-3.ensures.items _ _ _ went _ _ (sym c.len-count.ensures) _ lemmas _ nodes
