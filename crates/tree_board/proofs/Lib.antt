@@ -52,3 +52,5 @@ pub mod Workings
 pub mod NodeBranches
 pub mod Pushing
 pub mod Walks
+pub mod Claiming
+pub mod LeafSets

@@ -2,17 +2,18 @@
 use Rattle.std.proofs.Common.{◌≡◌, ◌≢◌, ℕ, zero, suc, ◌+◌, ◌<◌, ◌≤◌, ◌^◌, Bool, true, false, true≢false, not, List, [], ◌∷◌, ◌++◌, length, get_or, slice_get, All, AllPairs, Some, refl, sym, ap, subst, ◌∙◌, inl, inr, arith}
 use Rattle.std.proofs.lemmas.Bool.{cases_eq}
 use Rattle.std.proofs.lemmas.List.{length-append}
+use Rattle.mg_word.specs.Facts.{IsProblem}
 use Rattle.mg_word.specs.Sets.{holds, with_lit}
 use Rattle.mg_word.specs.declared.lit.Lit.{Lit}
 use Rattle.mg_word.proofs.Members.{both_true, not_true, holds_first, holds_later}
 use Rattle.model_extend.specs.Branches.{AreBranch}
-use Rattle.tree_board.specs.declared.board.TheConstants.{MOST_WEIGHT}
+use Rattle.tree_board.specs.declared.board.TheConstants.{MOST_BUDGET, MOST_WEIGHT}
 use Rattle.tree_board.specs.Boards.{Board}
 use Rattle.tree_board.specs.Facts.{all_different, IsPath, HasChildren, IsBoard}
+use Rattle.tree_board.specs.Lawful.{IsReplay}
 use Rattle.tree_board.specs.NodeStates.{Open, is_shut}
 use Rattle.tree_board.specs.Nodes.{Node}
 use Rattle.tree_board.specs.Settings.{Setting}
-use Rattle.tree_board.specs.Workers.{IsKnown}
 use Rattle.tree_board.proofs.Below.{split_at}
 use Rattle.tree_board.proofs.Budgets.{few_nodes}
 use Rattle.tree_board.proofs.Lightness.{literals_light}
@@ -73,19 +74,19 @@ pairs_different (lit ∷ lits) e (suc i) (suc j) d less small same = pairs_diffe
 all_within : (limit most : ℕ) (lits : List Lit) → limit ≤ most → All (λ lit. length lit.word ≤ limit) lits → All (λ lit. length lit.word ≤ most) lits
 all_within limit most lits small light = λ k d inside. let one = light k d inside in omega (arith, small, one)
 
-pub open_branch : (setting : Setting) (board : Board) → IsKnown setting board → (number : ℕ) (node : Node) → slice_get board.nodes number ≡ Some node → node.state ≡ Open → AreBranch setting.problem node.lits
-open_branch setting board known number node at opened =
-    let facts = replay_board setting board known.real known.replay in
+pub open_branch : (setting : Setting) (board : Board) → IsProblem setting.problem → IsReplay setting board → setting.limits.budget ≤ MOST_BUDGET → setting.limits.weight ≤ MOST_WEIGHT → (number : ℕ) (node : Node) → slice_get board.nodes number ≡ Some node → node.state ≡ Open → AreBranch setting.problem node.lits
+open_branch setting board real replay budget weight number node at opened =
+    let facts = replay_board setting board real replay in
     let own = facts.each number node at in
     let clean = own.clean (ap is_shut opened) in
     record {
       different = pairs_different node.lits clean.different;
       clash_free = clean.consistent;
       fitting = own.fitting;
-      short = all_within setting.limits.weight 65536 node.lits (let weight = known.weight in omega (arith, weight)) (literals_light setting board known.real known.replay number node at);
+      short = all_within setting.limits.weight 65536 node.lits (omega (arith, weight)) (literals_light setting board real replay number node at);
       few =
           let few = lits_few setting board facts number own.above (subst (IsPath board.nodes) own.path own.rooted) node at in
           let small = within board.nodes number node at in
-          let nodes = few_nodes setting board known.real known.replay known.budget in
+          let nodes = few_nodes setting board real replay budget in
           omega (arith, few, small, nodes);
     }

@@ -126,12 +126,12 @@ open_there board number opened = slice_get_within board.nodes number opened.node
 -- ---- of a board
 
 module _ (value : Search) (cells : List Cell) (closures : List Closure) (lemmas : List Pair) (lemma_nodes : List ℕ) (extends : ℕ) (keeping : IsKeeping value cells closures lemmas lemma_nodes extends) where
-  found_here : (number : ℕ) (node : Node) → slice_get (board_of value).nodes number ≡ Some node → option_map (λ (cell : Cell). is_found_set cell.settled) (slice_get cells number) ≡ Some (is_found node.state)
+  pub found_here : (number : ℕ) (node : Node) → slice_get (board_of value).nodes number ≡ Some node → option_map (λ (cell : Cell). is_found_set cell.settled) (slice_get cells number) ≡ Some (is_found node.state)
   found_here number node at =
       let (cell, is, stands) = cell_at value.journal closures (board_of value).kept 0 cells (board_of value).nodes keeping.stand.nodes number node at in
       ap (option_map (λ (cell : Cell). is_found_set cell.settled)) is ∙ ap Some (found_same value.journal closures (board_of value).kept (0 + number) cell.settled node.state stands.settled)
 
-  some_node : (nodes : List Node) (number : ℕ) → number < length nodes → (node : Node) × (slice_get nodes number ≡ Some node)
+  pub some_node : (nodes : List Node) (number : ℕ) → number < length nodes → (node : Node) × (slice_get nodes number ≡ Some node)
   some_node [] number small = absurd (omega (arith, small))
   some_node (node ∷ nodes) zero small = (node, refl)
   some_node (node ∷ nodes) (suc number) small = some_node nodes number (omega (arith, small))

@@ -35,3 +35,5 @@ pub mod Quick
 pub mod AloneLaws
 pub mod Workers
 pub mod Working
+pub mod Claims
+pub mod FoundSets

@@ -8,9 +8,11 @@ mod cell;
 mod cell_climb;
 mod cell_growth;
 mod cell_moves;
+mod commit;
 mod event;
 mod growing;
 mod laws;
+mod leaves;
 mod mode;
 mod node;
 mod quick;
@@ -18,6 +20,7 @@ mod standing;
 
 pub use alone::finish_alone;
 pub use board::{Board, MOST_BUDGET, MOST_WEIGHT};
+pub use commit::{Claim, Commit};
 pub use event::Event;
 pub use laws::{
     board_is_its_journal, boards_are_bounded, complete_board_covers, count_is_splits,

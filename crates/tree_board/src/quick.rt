@@ -4,6 +4,7 @@ ghost use Rattle.std.specs.Prelude.{◌≡◌, ◌<◌, false, IfOk, Some, lengt
 ghost use Rattle.std.specs.List.{position};
 ghost use Rattle.mg_word.specs.Sets.{is_proper_part};
 ghost use Rattle.tree_board.specs.CellStanding.{is_found_set};
+ghost use Rattle.tree_board.specs.Claims.{IsQuickAt, quick_event};
 ghost use Rattle.tree_board.specs.Quick.{IsOpenWith, NoneIsTouched, covers_lits, cover_in, some_found_in};
 ghost use Rattle.tree_board.specs.Searches.{setting_of, board_of};
 ghost use Rattle.tree_board.specs.Settling.{IsOpenAt, IsSettling};
@@ -14,8 +15,26 @@ use mg_meaning::is_part_of;
 use mg_word::{Lit, LitSet, NoMemory};
 use std::alloc::Global;
 
+/// What settles an open node at once: a kept lemma, or a found set.
+#[derive(Clone, Copy, Debug)]
+pub enum Quick {
+    ByLemma(u32),
+    Covered(u32),
+}
+
+// The event of what settles the node at once.
+fn event_of(node: u32, quick: Option<Quick>) -> Option<Event>
+    ensures { result ≡ option_map (quick_event node) quick }
+{
+    match quick {
+        Some(Quick::ByLemma(lemma)) => Some(Event::ByLemma { node, lemma }),
+        Some(Quick::Covered(by)) => Some(Event::Covered { node, by }),
+        None => None,
+    }
+}
+
 // Whether the cell with this number, which is there, is that of a found node.
-fn is_found_at(cells: &[Cell], node: u32) -> bool
+pub(crate) fn is_found_at(cells: &[Cell], node: u32) -> bool
     requires { node < length cells.now }
     ensures { option_map (λ cell. is_found_set cell.settled) (slice_get cells.now node) ≡ Some result }
 {
@@ -83,22 +102,23 @@ impl Board {
         }
     }
 
-    // The same as `settling`, of a node whose literals and barred set these are.
-    pub(crate) fn settling_by(
+    // What settles the open node with these literals and this barred set at once: the least kept lemma that applies, or else
+    // the least found node that covers it.
+    pub(crate) fn quick_at(
         &self,
         alloc: Global,
         node: u32,
         lits: &[Lit],
         barred: &LitSet,
-    ) -> Result<Option<Event>, NoMemory>
+    ) -> Result<Option<Quick>, NoMemory>
         requires { IsOpenWith (board_of self.now) node lits.now barred.now }
-        ensures { IfOk result (IsSettling (setting_of self.now) (board_of self.now) node) }
+        ensures { IfOk result (IsQuickAt self.now node) }
     {
         if let Some(lemma) = self.lemmas.first_match(lits, barred) {
-            return Ok(Some(Event::ByLemma { node, lemma }));
+            return Ok(Some(Quick::ByLemma(lemma)));
         }
         match self.cover_of(alloc, lits)? {
-            Some(by) => Ok(Some(Event::Covered { node, by })),
+            Some(by) => Ok(Some(Quick::Covered(by))),
             None => Ok(None),
         }
     }
@@ -114,6 +134,7 @@ impl Board {
         }
         let lits = self.lits_at(alloc, node)?;
         let barred = self.barred_at(alloc, node)?;
-        self.settling_by(alloc, node, lits.as_slice(), &barred)
+        let quick = self.quick_at(alloc, node, lits.as_slice(), &barred)?;
+        Ok(event_of(node, quick))
     }
 }

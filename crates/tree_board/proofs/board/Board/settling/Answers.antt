@@ -1,5 +1,8 @@
-use Rattle.std.proofs.Common.{Some, ap, sym, ◌∙◌}
+use Rattle.std.proofs.Common.{Some, ap, subst, sym, ◌∙◌}
 use Rattle.tree_board.proofs.QuickSettling.{open_there, open_with}
+use Rattle.tree_board.specs.Searches.{board_of, setting_of}
+use Rattle.tree_board.specs.Settling.{IsSettling}
+use Rattle.tree_board.proofs.Claiming.{quick_settles}
 use Rattle.tree_board.proofs.board.Board.settling.Goals as goal
 
 pub returns-then-not-may_settle : goal.returns-then-not-may_settle
@@ -11,5 +14,8 @@ lits_at-requires c = open_there _ _ c.requires
 pub barred_at-requires : goal.barred_at-requires
 barred_at-requires c = open_there _ _ c.requires
 
-pub settling_by-requires : goal.settling_by-requires
-settling_by-requires c = open_with _ _ c.requires _ _ (c.in_ok-lits.ensures ∙ ap Some (sym c.as_slice.ensures.value)) c.in_ok-barred.ensures
+pub quick_at-requires : goal.quick_at-requires
+quick_at-requires c = open_with _ _ c.requires _ _ (c.in_ok-lits.ensures ∙ ap Some (sym c.as_slice.ensures.value)) c.in_ok-barred.ensures
+
+pub returns : goal.returns
+returns c = subst (IsSettling (setting_of c.args.self.now) (board_of c.args.self.now) c.args.node) (sym c.event_of.ensures) (quick_settles c.args.self.now c.args.node _ c.in_ok-quick.ensures)
