@@ -1,17 +1,15 @@
 -- Cells that were replaced are put back.
-use Rattle.std.proofs.Common.{◌≡◌, ℕ, zero, suc, ◌+◌, ◌<◌, ◌≤◌, Bool, true, false, not, ◌&&◌, nat_eq, nat_lt, nat_le, List, [], ◌∷◌, ◌++◌, length, slice_get, slice_set, Option, None, Some, refl, sym, ap, ap₂, subst, append_assoc, take, true≢false, ◌∙◌, arith}
+use Rattle.std.proofs.Common.{◌≡◌, ℕ, zero, suc, ◌+◌, ◌<◌, ◌≤◌, Bool, true, false, not, ◌&&◌, nat_eq, nat_lt, nat_le, List, [], ◌∷◌, ◌++◌, length, slice_get, slice_set, None, Some, refl, sym, ap, ap₂, take, true≢false, ◌∙◌, arith}
 use Rattle.std.specs.Prelude.{Result, Ok, Err, OnOk, OnErr, is_err}
 use Rattle.std.proofs.lemmas.Bool.{ltb-true}
 use Rattle.std.proofs.lemmas.List.{length-append}
 use Rattle.mg_word.proofs.Members.{both_true}
 use Rattle.mg_meaning.specs.Folding.{Pair}
 use Rattle.branch_lemmas.specs.declared.index.TheConstants.{MOST_LEMMAS, MOST_LITERALS}
-use Rattle.tree_board.specs.declared.event.Event.{Event}
 use Rattle.tree_board.specs.Settings.{small}
-use Rattle.tree_board.proofs.Places.{same_some}
 use Rattle.tree_board.specs.declared.cell.Cell.{Cell}
 use Rattle.tree_board.specs.declared.cell_climb.Before.{Before}
-use Rattle.tree_board.specs.CellClimbs.{due_cell, closed_cell, with_if, number_if, CloseBy, Closes, AreFew, restored}
+use Rattle.tree_board.specs.CellClimbs.{with_if, AreFew, restored}
 
 module _ {X : Type 0} where
   -- the item that stood there

@@ -1,4 +1,4 @@
-use Rattle.std.proofs.Common.{ap, ap₂, sym, subst, ◌+◌, ◌∙◌}
+use Rattle.std.proofs.Common.{ap, sym, subst, ◌+◌, ◌∙◌}
 use Rattle.tree_board.specs.CellClimbs.{AreFew, with_if}
 use Rattle.tree_board.specs.Settings.{small}
 use Rattle.tree_board.proofs.Restores.{few_more, noted}

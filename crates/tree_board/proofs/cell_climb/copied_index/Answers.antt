@@ -1,4 +1,4 @@
-use Rattle.std.proofs.Common.{◌<◌, ◌∷◌, ◌++◌, [], add-one, ap, ap₂, arith, length, subst, sym, take, ◌∙◌}
+use Rattle.std.proofs.Common.{◌<◌, ◌∷◌, ◌++◌, [], add-one, ap, ap₂, arith, length, subst, sym, ◌∙◌}
 use Rattle.mg_word.specs.Words.{numbered}
 use Rattle.tree_board.proofs.Restores.{length_take, none_within, take_one}
 use Rattle.tree_board.proofs.cell_climb.copied_index.Goals as goal

@@ -1,5 +1,4 @@
-use Rattle.std.proofs.Common.{◌++◌, ap, ap₂, sym, ◌∙◌}
-use Rattle.tree_board.specs.CellClimbs.{restored}
+use Rattle.std.proofs.Common.{◌∙◌}
 use Rattle.tree_board.proofs.Restores.{put_back_last}
 use Rattle.tree_board.proofs.cell_climb.restore.Goals as goal
 

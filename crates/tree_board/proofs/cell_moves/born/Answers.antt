@@ -1,7 +1,7 @@
-use Rattle.std.proofs.Common.{◌≡◌, ◌∷◌, ◌++◌, ◌+◌, ◌<◌, ◌≤◌, [], ap, ap₂, arith, length, sym, ◌∙◌}
+use Rattle.std.proofs.Common.{◌≡◌, ◌∷◌, ◌++◌, ◌+◌, [], ap, ap₂, arith, length, sym, ◌∙◌}
 use Rattle.std.proofs.lemmas.Iterator.Adapters.{YieldsList-from_vec}
 use Rattle.std.proofs.lemmas.Iterator.Consumers.{YieldsList-turn}
-use Rattle.tree_board.specs.CellMoves.{born_cell, cells_of_cases, closures_of, with_closure}
+use Rattle.tree_board.specs.CellMoves.{born_cell, closures_of, with_closure}
 use Rattle.tree_board.proofs.CaseCells.{cells_push, closures-cases, closures_push}
 use Rattle.tree_board.proofs.cell_moves.born.Goals as goal
 
