@@ -1,7 +1,6 @@
 -- In mode Refute one worker ends, or gives up at a limit.
-use Rattle.std.proofs.Common.{◌≡◌, ℕ, Bool, true, false, true≢false, nat_le, List, [], ◌∷◌, length, slice_get, Option, Some, None, refl, sym, ap, subst, ◌∙◌, ◌⊎◌, inl, inr, arith}
+use Rattle.std.proofs.Common.{◌≡◌, ℕ, Bool, true, false, true≢false, nat_le, List, [], ◌∷◌, Option, Some, None, refl, sym, ap, subst, ◌∙◌, ◌⊎◌, inl, inr, arith}
 use Rattle.mg_word.specs.Facts.{IsProblem}
-use Rattle.mg_word.specs.declared.lit.Lit.{Lit}
 use Rattle.tree_board.specs.declared.event.Event.{Event}
 use Rattle.tree_board.specs.declared.mode.BoardState.{BoardState}
 use Rattle.tree_board.specs.declared.mode.BoardState.TheVariants.{Closed, Model, Complete, Running, Blocked}

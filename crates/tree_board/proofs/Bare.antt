@@ -1,8 +1,7 @@
 -- What an event makes of the nodes, but for their lemmas.
-use Rattle.std.proofs.Common.{◌≡◌, ◌≢◌, ℕ, zero, suc, ◌+◌, ◌<◌, ◌≤◌, Bool, true, false, List, [], ◌∷◌, ◌++◌, length, map, drop, slice_get, slice_set, Option, Some, None, option_map, refl, sym, ap, subst, ◌∙◌, ◌⊎◌, inl, inr, arith}
+use Rattle.std.proofs.Common.{◌≡◌, ◌≢◌, ℕ, zero, suc, ◌+◌, List, [], ◌∷◌, length, map, drop, slice_get, slice_set, Option, Some, None, option_map, refl, sym, ap, ◌∙◌, ◌⊎◌, inl, inr}
 use Rattle.std.proofs.lemmas.List.{drop-map, drop_at, length-append}
 use Rattle.std.proofs.lemmas.Option.{slice_get-map}
-use Rattle.mg_word.specs.declared.lit.Lit.{Lit}
 use Rattle.mg_meaning.specs.Folding.{Pair}
 use Rattle.tree_board.specs.declared.event.Event.{Event}
 use Rattle.tree_board.specs.Boards.{Board, count}
@@ -10,7 +9,6 @@ use Rattle.tree_board.specs.Closings.{due, closed_by, closed_node, closed_at}
 use Rattle.tree_board.specs.Effects.{settled, born, moved, effect}
 use Rattle.tree_board.specs.Events.{node_of, extends_in}
 use Rattle.tree_board.specs.Lawful.{IsLawful}
-use Rattle.tree_board.specs.NodeStates.{NodeState}
 use Rattle.tree_board.specs.Nodes.{Node}
 use Rattle.tree_board.specs.OpenLists.{open_by, open_numbers}
 use Rattle.tree_board.specs.Settings.{Setting}

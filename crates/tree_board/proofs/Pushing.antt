@@ -1,5 +1,5 @@
 -- The open ones among the nodes from a number on, and the children of a node, put on to a list.
-use Rattle.std.proofs.Common.{◌≡◌, ℕ, zero, suc, ◌+◌, ◌-◌, ◌<◌, ◌≤◌, ◌^◌, Bool, true, false, length, List, [], ◌∷◌, ◌++◌, drop, reverse, slice_get, Option, Some, None, option_map, is_some, refl, sym, ap, subst, ◌∙◌, inl, inr, arith, append_assoc}
+use Rattle.std.proofs.Common.{◌≡◌, ℕ, zero, suc, ◌+◌, ◌-◌, ◌<◌, ◌≤◌, ◌^◌, Bool, true, false, length, List, [], ◌∷◌, ◌++◌, drop, reverse, slice_get, Option, Some, None, option_map, is_some, refl, sym, ap, ◌∙◌, arith, append_assoc}
 use Rattle.std.proofs.lemmas.List.{append-nil, drop_all, reverse-append}
 use Rattle.std.specs.Prelude.{option_and_then}
 use Rattle.mg_word.specs.declared.lit.Lit.{Lit}
@@ -9,7 +9,7 @@ use Rattle.case_split.specs.declared.child.Closure.{Closure}
 use Rattle.tree_board.specs.declared.cell.Cell.{Cell}
 use Rattle.tree_board.specs.declared.cell.Settled.{Settled}
 use Rattle.tree_board.specs.declared.event.Event.{Event}
-use Rattle.tree_board.specs.Boards.{Board, Kept, is_closed, own_of}
+use Rattle.tree_board.specs.Boards.{Board, is_closed, own_of}
 use Rattle.tree_board.specs.Cells.{StandsForState}
 use Rattle.tree_board.specs.CellStanding.{is_open_yet, is_root_closed}
 use Rattle.tree_board.specs.Keeping.{IsKeeping}
