@@ -1,11 +1,13 @@
 -- What a sink gained in several puts.
-use Rattle.std.proofs.Common.{◌≡◌, ℕ, ◌+◌, ◌≤◌, ◌<◌, List, ◌∷◌, ◌++◌, length, take, drop, get_or, Option, Some, None, sym, ap, ◌∙◌, arith, append_assoc, length-append}
+use Rattle.std.proofs.Common.{◌≡◌, ℕ, ◌+◌, ◌≤◌, ◌<◌, List, ◌∷◌, ◌++◌, length, take, drop, get_or, Option, Some, None, refl, sym, ap, ◌∙◌, arith, append_assoc, length-append}
 use Rattle.std.specs.List.{flat_map}
 use Rattle.std.proofs.Math.Seq.{take-append-add}
 use Rattle.std.proofs.lemmas.List.{take-append-le, take-append-drop, drop_more}
 use Rattle.std.proofs.lemmas.Grind.{flat_map-append}
 use Rattle.mg_outside.specs.Causes.{Rose, one_more}
-use Rattle.mg_outside.specs.Putting.{SinkSeen, Gained, TookFront, AllPut, PutFailed}
+use Rattle.mg_outside.specs.Putting.{SinkSeen, Gained, TookFront, AllPut, PutFailed, Puts}
+use Rattle.mg_outside.specs.declared.sink.PutAnswer.{PutAnswer}
+use Rattle.mg_outside.specs.declared.sink.PutAnswer.TheVariants.{Done, Failed}
 
 -- what is gained in two puts is gained in one
 pub Gained-append : (a b c : Option (List ℕ)) (xs ys : List ℕ) → Gained a b xs → Gained b c ys → Gained a c (xs ++ ys)
@@ -46,6 +48,11 @@ flat_map-split text pieces i d inside =
     let parts : pieces ≡ take i pieces ++ (get_or pieces i d ∷ drop (i + 1) pieces) =
     sym (take-append-drop i pieces) ∙ ap (λ l. take i pieces ++ l) (drop_more pieces i d inside) in
     ap (flat_map text) parts ∙ flat_map-append text (take i pieces) (get_or pieces i d ∷ drop (i + 1) pieces)
+
+-- a put that did not fail
+pub done_put : (answer : PutAnswer) (a b : SinkSeen) (bytes : List ℕ) → (answer ≡ Failed → ⊥) → Puts answer a b bytes → AllPut a b bytes
+done_put Done a b bytes fine put = put
+done_put Failed a b bytes fine put = absurd (fine refl)
 
 -- a count that rose from a later value rose from an earlier one
 pub Rose-earlier : (a b c : ℕ) → a ≤ b → Rose b c → Rose a c

@@ -2,7 +2,11 @@ pub mod Gaining
 pub mod Memory
 pub mod Slashes
 pub mod Words
+pub mod OneFinding
 pub mod OneReject
+pub mod SearchEnds
 pub mod OneReply
 pub mod Outcomes
 pub mod Replying
+pub mod SetLines
+pub mod Proving

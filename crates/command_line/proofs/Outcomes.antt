@@ -12,20 +12,28 @@ use Rattle.cnf_reader.specs.declared.fault.ReadKind.{ReadKind}
 use Rattle.cnf_reader.specs.declared.fault.ReadKind.TheVariants.{Files, ProblemAbsent, IncludeAbsent, TooLong}
 use Rattle.cnf_reader.specs.declared.fault.ReadFault.{ReadFault}
 use Rattle.cnf_reader.specs.declared.fault.ReadFault.TheVariants.{At, NoMemory as NoMemoryToRead}
-use Rattle.command_line.specs.Asking.{Request, Check, Forms, Asks, problem_file}
+use Rattle.command_line.specs.Asking.{Request, Prove, Check, Forms, Asks, problem_file}
 use Rattle.command_line.specs.Checks.{check_status}
 use Rattle.command_line.specs.Names.{name_of}
+use Rattle.command_line.specs.Problems.{IsProblemOf}
+use Rattle.command_line.specs.ProveLines.{finding_status}
+use Rattle.command_line.specs.Searched.{EndsWith, default_limits, search_of}
+use Rattle.command_line.specs.declared.finding.Finding.{Finding}
+use Rattle.command_line.specs.declared.finding.Finding.TheVariants.{Unsatisfiable, Satisfiable, GaveUp}
+use Rattle.mg_word.specs.Facts.{ProblemData}
+use Rattle.tree_board.specs.Alone.{FitsPlain}
+use Rattle.tree_board.specs.Searches.{Search, setting_of}
 use Rattle.command_line.specs.Printing.{Prints, IsWhole, LinesFailed, MessagesFailed}
 use Rattle.command_line.specs.Refusals.{Refusal, Unread, Unformed, TreeAbsent, TreeFailed, MemoryOut, IsRefusal, refusal_read, read_status, memory_printout}
-use Rattle.command_line.specs.Replies.{Reply, Usage, Answered, Refused, Answer, IsReplyTo, IsRightReply, HasCause, IsCounted, answer_printout, reply_read, reply_name, printout_of}
-use Rattle.command_line.specs.Runs.{Outside, Runs, NoneFailed, IsPrinted, IsOnly, IsFailure, IsExact, Succeeds, SomePutFailed}
+use Rattle.command_line.specs.Replies.{Reply, Usage, Answered, Refused, Answer, IsAnswer, IsReplyTo, IsRightReply, HasCause, IsCounted, answer_printout, reply_read, reply_name, printout_of}
+use Rattle.command_line.specs.Runs.{AreDetermined, Fits, IsDetermined, Outside, Runs, NoneFailed, IsPrinted, IsOnly, IsFailure, IsExact, Succeeds, SomePutFailed}
 use Rattle.command_line.specs.Statuses.{code}
 use Rattle.command_line.specs.declared.printout.Printout.{Printout}
 use Rattle.command_line.specs.declared.status.Status.{Status}
 use Rattle.command_line.specs.declared.status.Status.TheVariants.{Done, Rejected as RejectedStatus, Refused as RefusedStatus, Failed, MemoryOut as MemoryStatus}
 use Rattle.command_line.specs.declared.szs_report.check.CheckAnswer.{CheckAnswer}
 use Rattle.command_line.specs.declared.szs_report.check.CheckAnswer.TheVariants.{Accepted, Rejected, Unread as UnreadTree}
-use Rattle.command_line.proofs.OneReply.{one_request, one_reply}
+use Rattle.command_line.proofs.OneReply.{one_problem_of, one_reply, one_request, refused_not, shown}
 
 put_rose : (before now : ℕ) → now ≡ one_more before → Rose before now
 put_rose before now is = rw is (omega arith)
@@ -81,40 +89,79 @@ read_failed Usage before now counted failed = cc
 read_failed (Answered request answer) before now counted failed = cc
 read_failed (Refused request refusal) before now counted failed = failed_last before now (subst (λ answer. CallEnds answer before now) failed counted)
 
--- of told files one reply is printed
-pub only : (words : List (List ℕ)) (before now : Outside) (status : ℕ) → Runs words before now status → IsOnly words before now status
-only words before now status runs files told none reply right = by runs.printed
+-- the reply is right and was printed, or that memory ran out
+data RightOrOut (words : List (List ℕ)) (files : Table) (before now : Outside) (status : ℕ) (reply : Reply) : Type 0 where
+  right_printed : IsRightReply words files reply → IsPrinted (printout_of reply) before now status → RightOrOut words files before now status reply
+  memory_printed : IsPrinted (memory_printout (reply_name reply)) before now status → RightOrOut words files before now status reply
+
+-- where the files are told and nothing failed
+right_or_out : (words : List (List ℕ)) (before now : Outside) (status : ℕ) (runs : Runs words before now status) (files : Table) → before.told ≡ Some files → NoneFailed before now → RightOrOut words files before now status runs.reply
+right_or_out words before now status runs files told none = by runs.printed
   where
     cause : HasCause (Some files) runs.reply
     cause = subst (λ one. HasCause one runs.reply) told runs.cause
 
-    names : reply_name runs.reply ≡ reply_name reply
-    names = one_name words runs.reply reply runs.to right.to
+    one : IsPrinted (printout_of runs.reply) before now status → (reply_read runs.reply ≢ ReadNoMemory) ⊎ (printout_of runs.reply ≡ memory_printout (reply_name runs.reply)) → RightOrOut words files before now status runs.reply
+    one printed (inl enough) = right_printed (record { to = runs.to; cause = cause; whole = λ failed. none.reads (read_failed runs.reply before.counts now.counts runs.counted failed); enough = enough }) printed
+    one printed (inr memory_out) = memory_printed (subst (λ printout. IsPrinted printout before now status) memory_out printed)
 
-    memory : IsPrinted (memory_printout (reply_name runs.reply)) before now status → IsPrinted (memory_printout (reply_name reply)) before now status
-    memory printed = subst (λ name. IsPrinted (memory_printout name) before now status) names printed
-
-    one : IsPrinted (printout_of runs.reply) before now status → (reply_read runs.reply ≢ ReadNoMemory) ⊎ (printout_of runs.reply ≡ memory_printout (reply_name runs.reply)) → IsPrinted (printout_of reply) before now status ⊎ IsPrinted (memory_printout (reply_name reply)) before now status
-    one printed (inl enough) =
-        let same = one_reply files words runs.reply reply (record { to = runs.to; cause = cause; whole = λ failed. none.reads (read_failed runs.reply before.counts now.counts runs.counted failed); enough = enough }) right in
-        inl (subst (λ reply. IsPrinted (printout_of reply) before now status) same printed)
-    one printed (inr memory_out) = inr (memory (subst (λ printout. IsPrinted printout before now status) memory_out printed))
-
-    by : Prints (printout_of runs.reply) before.out now.out before.err now.err status ⊎ Prints (memory_printout (reply_name runs.reply)) before.out now.out before.err now.err status
-        → IsPrinted (printout_of reply) before now status ⊎ IsPrinted (memory_printout (reply_name reply)) before now status
+    by : Prints (printout_of runs.reply) before.out now.out before.err now.err status ⊎ Prints (memory_printout (reply_name runs.reply)) before.out now.out before.err now.err status → RightOrOut words files before now status runs.reply
     by (inl prints) = one (whole (printout_of runs.reply) before.out now.out before.err now.err status prints none.output none.messages) (known (Some files) runs.reply cause)
-    by (inr prints) = inr (memory (whole (memory_printout (reply_name runs.reply)) before.out now.out before.err now.err status prints none.output none.messages))
+    by (inr prints) = memory_printed (whole (memory_printout (reply_name runs.reply)) before.out now.out before.err now.err status prints none.output none.messages)
+
+-- of told files that determine the answer one reply is printed
+pub only : (words : List (List ℕ)) (before now : Outside) (status : ℕ) → Runs words before now status → IsOnly words before now status
+only words before now status runs files told determined none reply right = by (right_or_out words before now status runs files told none)
+  where
+    by : RightOrOut words files before now status runs.reply → IsPrinted (printout_of reply) before now status ⊎ IsPrinted (memory_printout (reply_name reply)) before now status
+    by (right_printed own printed) = inl (subst (λ one. IsPrinted (printout_of one) before now status) (one_reply files words determined runs.reply reply own right) printed)
+    by (memory_printed printed) = inr (subst (λ name. IsPrinted (memory_printout name) before now status) (one_name words runs.reply reply runs.to right.to) printed)
+
+memory_code : (name : Option (List ℕ)) → code (memory_printout name).status ≡ 4
+memory_code None = refl
+memory_code (Some name) = refl
+
+-- where the words ask for one command, that is the only one
+asked : (words : List (List ℕ)) (files : Table) (request : Request) → Asks words request → IsDetermined files request → AreDetermined words files
+asked words files request asks is other asks' = subst (IsDetermined files) (one_request words request other asks asks') is
+
+-- a search whose plain tree fits the limits does not give up
+fitting_status : (search : Search) (finding : Finding) → FitsPlain (setting_of search) → EndsWith search finding → code (finding_status finding) ≡ 0
+fitting_status search (Unsatisfiable doc) fits ends = refl
+fitting_status search (Satisfiable set) fits ends = refl
+fitting_status search (GaveUp limit) fits ends = absurd (ends.exceeds fits)
+
+-- the right reply to the words, where the problem is there and its plain tree fits the limits
+prove_status : (words : List (List ℕ)) (files : Table) (file : List ℕ) (problem : ProblemData) → Asks words (Prove file) → IsProblemOf (Some files) file problem → Fits problem
+    → (reply : Reply) → IsRightReply words files reply → code (printout_of reply).status ≡ 0
+prove_status words files file problem asks there fits Usage right = absurd (right.to (Prove file) asks)
+prove_status words files file problem asks there fits (Answered request answer) right =
+    subst (λ request. (answer : Answer request) → IsAnswer request (Some files) answer → code (answer_printout request answer).status ≡ 0) (one_request words (Prove file) request asks right.to) answered answer right.cause
+  where
+    answered : (answer : Answer (Prove file)) → IsAnswer (Prove file) (Some files) answer → code (answer_printout (Prove file) answer).status ≡ 0
+    answered answer is =
+        let same : problem ≡ answer.problem = one_problem_of files file problem answer.problem there is.is in
+        fitting_status (search_of answer.problem default_limits is.journal) answer.finding (subst Fits same fits) is.found.ends
+prove_status words files file problem asks there fits (Refused request refusal) right =
+    let same : request ≡ Prove file = one_request words request (Prove file) right.to asks in
+    absurd (refused_not files file problem refusal there (shown files (Prove file) refusal (subst (λ one. IsRefusal one (Some files) refusal) same right.cause) right.whole right.enough))
 
 -- a run that asks for what is in told files succeeds
-pub exact : (words : List (List ℕ)) (before now : Outside) (status : ℕ) → IsOnly words before now status → IsExact words before now status
-exact words before now status is (Check file tree) asks files told there none =
-    by (is files told none (Answered (Check file tree) Accepted) (record { to = asks; cause = there; whole = λ same. cc; enough = λ same. cc }))
+pub exact : (words : List (List ℕ)) (before now : Outside) (status : ℕ) → Runs words before now status → IsExact words before now status
+exact words before now status runs (Prove file) asks files told (problem, there, fits) none =
+    by (right_or_out words before now status runs files told none)
+  where
+    by : RightOrOut words files before now status runs.reply → (status ≡ 0) ⊎ (status ≡ 4)
+    by (right_printed right printed) = inl (printed.status_is ∙ prove_status words files file problem asks there fits runs.reply right)
+    by (memory_printed printed) = inr (printed.status_is ∙ memory_code (reply_name runs.reply))
+exact words before now status runs (Check file tree) asks files told there none =
+    by (only words before now status runs files told (asked words files (Check file tree) asks tt) none (Answered (Check file tree) Accepted) (record { to = asks; cause = there; whole = λ same. cc; enough = λ same. cc }))
   where
     by : IsPrinted (printout_of (Answered (Check file tree) Accepted)) before now status ⊎ IsPrinted (memory_printout (Some (name_of file))) before now status → (status ≡ 0) ⊎ (status ≡ 4)
     by (inl printed) = inl printed.status_is
     by (inr printed) = inr printed.status_is
-exact words before now status is (Forms file) asks files told (problem, there) none =
-    by (is files told none (Answered (Forms file) problem) (record { to = asks; cause = there; whole = λ same. cc; enough = λ same. cc }))
+exact words before now status runs (Forms file) asks files told (problem, there) none =
+    by (only words before now status runs files told (asked words files (Forms file) asks tt) none (Answered (Forms file) problem) (record { to = asks; cause = there; whole = λ same. cc; enough = λ same. cc }))
   where
     by : IsPrinted (printout_of (Answered (Forms file) problem)) before now status ⊎ IsPrinted (memory_printout (Some (name_of file))) before now status → (status ≡ 0) ⊎ (status ≡ 4)
     by (inl printed) = inl printed.status_is
@@ -194,7 +241,13 @@ check_fine Accepted same = omega arith
 check_fine (Rejected line why) same = omega arith
 check_fine (UnreadTree line kind) same = omega arith
 
+finding_fine : (finding : Finding) → 3 ≡ code (finding_status finding) → ⊥
+finding_fine (Unsatisfiable doc) same = omega arith
+finding_fine (Satisfiable set) same = omega arith
+finding_fine (GaveUp limit) same = omega arith
+
 answer_fine : (request : Request) (answer : Answer request) → 3 ≡ code (answer_printout request answer).status → ⊥
+answer_fine (Prove file) answer same = finding_fine answer.finding same
 answer_fine (Check file tree) answer same = check_fine answer same
 answer_fine (Forms file) answer same = omega arith
 
@@ -211,10 +264,6 @@ behind_failure (Refused request MemoryOut) same = absurd (omega arith)
 memory_fine : (name : Option (List ℕ)) → 3 ≡ code (memory_printout name).status → ⊥
 memory_fine None same = omega arith
 memory_fine (Some name) same = omega arith
-
-memory_code : (name : Option (List ℕ)) → code (memory_printout name).status ≡ 4
-memory_code None = refl
-memory_code (Some name) = refl
 
 -- when the status of a run is that of a failure
 pub failure : (words : List (List ℕ)) (before now : Outside) (status : ℕ) → Runs words before now status → IsFailure before now status

@@ -3,8 +3,12 @@ pub mod Checks
 pub mod FormLines
 pub mod Lines
 pub mod Names
+pub mod Outcomes
 pub mod Printing
 pub mod Problems
+pub mod ProveLines
+pub mod Proves
+pub mod Searched
 pub mod Refusals
 pub mod Replies
 pub mod Requests

@@ -6,12 +6,14 @@ use Rattle.mg_outside.specs.Counting.{Counts, ReadsEnd, CallEnds}
 use Rattle.mg_outside.specs.Reading.{Table}
 use Rattle.mg_outside.specs.declared.files.ReadAnswer.{ReadAnswer}
 use Rattle.mg_outside.specs.declared.files.ReadAnswer.TheVariants.{Done as ReadDone, Failed as ReadFailed, NoMemory as ReadNoMemory}
-use Rattle.command_line.specs.Asking.{Request, Check, Forms, Asks, problem_file}
+use Rattle.command_line.specs.Asking.{Request, Prove, Check, Forms, Asks, problem_file}
 use Rattle.command_line.specs.Checks.{IsChecked, check_printout}
 use Rattle.command_line.specs.FormLines.{forms_printout}
 use Rattle.command_line.specs.Lines.{usage_lines}
 use Rattle.command_line.specs.Names.{name_of}
 use Rattle.command_line.specs.Problems.{IsProblemOf}
+use Rattle.command_line.specs.Proves.{Proved, IsProved, prove_printout}
+use Rattle.command_line.specs.Searched.{default_limits}
 use Rattle.command_line.specs.Refusals.{Refusal, IsRefusal, refusal_read, refusal_printout, memory_printout}
 use Rattle.command_line.specs.Requests.{AsksNothing}
 use Rattle.command_line.specs.declared.status.Status.TheVariants.{Refused as RefusedStatus}
@@ -20,16 +22,19 @@ use Rattle.command_line.specs.declared.szs_report.check.CheckAnswer.{CheckAnswer
 
 -- what a command answers, where its input is not refused
 abbrev pub Answer : Request → Type 0
+Answer (Prove file) = Proved
 Answer (Check file tree) = CheckAnswer
 Answer (Forms file) = ProblemData
 
 -- the answer is right in these files
 abbrev pub IsAnswer : (request : Request) → Option Table → Answer request → Type 0
+IsAnswer (Prove file) told answer = IsProved told file default_limits answer
 IsAnswer (Check file tree) told answer = IsChecked told file tree answer
 IsAnswer (Forms file) told problem = IsProblemOf told file problem
 
 -- the lines and the status of an answer
 abbrev pub answer_printout : (request : Request) → Answer request → Printout
+answer_printout (Prove file) answer = prove_printout (name_of file) default_limits answer
 answer_printout (Check file tree) answer = check_printout (name_of file) answer
 answer_printout (Forms file) problem = forms_printout problem
 

@@ -1,10 +1,11 @@
 -- What a request of the program is seen as.
 use Rattle.std.specs.Prelude.{ℕ, List}
-use Rattle.command_line.specs.Asking.{Asks, Request as Wanted, Check as CheckOf, Forms as FormsOf}
+use Rattle.command_line.specs.Asking.{Asks, Request as Wanted, Prove as ProveOf, Check as CheckOf, Forms as FormsOf}
 use Rattle.command_line.specs.declared.request.Request.{Request}
-use Rattle.command_line.specs.declared.request.Request.TheVariants.{Check, Forms}
+use Rattle.command_line.specs.declared.request.Request.TheVariants.{Prove, Check, Forms}
 
 abbrev pub seen : Request → Wanted
+seen (Prove file) = ProveOf file.now
 seen (Check file tree) = CheckOf file.now tree.now
 seen (Forms file) = FormsOf file.now
 

@@ -1,17 +1,20 @@
 -- What a run is: the main statements on the top call.
-use Rattle.std.specs.Prelude.{◌≡◌, ◌≢◌, ℕ, List, Option, Some, ◌⊎◌}
+use Rattle.std.specs.Prelude.{◌≡◌, ◌≢◌, ℕ, List, [], Option, Some, ◌⊎◌}
 use Rattle.mg_outside.specs.Causes.{Rose}
 use Rattle.mg_outside.specs.Counting.{Counts, SomeFailed}
 use Rattle.mg_outside.specs.Putting.{SinkSeen}
 use Rattle.mg_outside.specs.Reading.{Table}
-use Rattle.command_line.specs.Asking.{Request, Check, Forms, Asks}
+use Rattle.command_line.specs.Asking.{Request, Prove, Check, Forms, Asks}
 use Rattle.command_line.specs.Checks.{IsChecked}
 use Rattle.command_line.specs.Printing.{Prints, IsWhole}
 use Rattle.command_line.specs.Problems.{IsProblemOf}
 use Rattle.command_line.specs.Refusals.{memory_printout}
 use Rattle.command_line.specs.Replies.{Reply, IsReplyTo, IsRightReply, HasCause, IsCounted, reply_name, printout_of}
 use Rattle.command_line.specs.declared.printout.Printout.{Printout}
+use Rattle.command_line.specs.Searched.{default_limits, search_of}
 use Rattle.command_line.specs.Statuses.{code}
+use Rattle.tree_board.specs.Alone.{FitsPlain}
+use Rattle.tree_board.specs.Searches.{setting_of}
 use Rattle.command_line.specs.declared.status.Status.TheVariants.{Done, Failed, MemoryOut}
 use Rattle.mg_word.specs.Facts.{ProblemData}
 use Rattle.command_line.specs.declared.szs_report.check.CheckAnswer.TheVariants.{Accepted}
@@ -50,10 +53,26 @@ pub record NoneFailed (before now : Outside) : Type 0 where
 abbrev pub IsPrinted : Printout → Outside → Outside → ℕ → Type 0
 IsPrinted printout before now status = IsWhole printout before.out now.out before.err now.err status
 
--- where the files are told, and no read and no put failed, every reply that is right is the one that is printed, unless memory ran out
+-- the plain tree of the problem fits the limits of a search
+abbrev pub Fits : ProblemData → Type 0
+Fits problem = FitsPlain (setting_of (search_of problem default_limits []))
+
+-- in these files one answer is right: that of a search is where the plain tree of its problem fits the limits, and may else be that it gives up
+-- as well as any other that is right
+abbrev pub IsDetermined : Table → Request → Type 0
+IsDetermined files (Prove file) = (problem : ProblemData) → IsProblemOf (Some files) file problem → Fits problem
+IsDetermined files (Check file tree) = Unit {0}
+IsDetermined files (Forms file) = Unit {0}
+
+-- so it is with what the words ask for
+abbrev pub AreDetermined : List (List ℕ) → Table → Type 0
+AreDetermined words files = (request : Request) → Asks words request → IsDetermined files request
+
+-- where the files are told and determine the answer, and no read and no put failed, every reply that is right is the one that is printed, unless
+-- memory ran out
 abbrev pub IsOnly : List (List ℕ) → Outside → Outside → ℕ → Type 0
 IsOnly words before now status =
-    (files : Table) → before.told ≡ Some files → NoneFailed before now → (reply : Reply) → IsRightReply words files reply
+    (files : Table) → before.told ≡ Some files → AreDetermined words files → NoneFailed before now → (reply : Reply) → IsRightReply words files reply
     → IsPrinted (printout_of reply) before now status ⊎ IsPrinted (memory_printout (reply_name reply)) before now status
 
 -- a put failed, by the counts
@@ -67,8 +86,9 @@ pub record IsFailure (before now : Outside) (status : ℕ) : Type 0 where
   pub read : now.counts.faults ≢ before.counts.faults → (status ≡ code Failed) ⊎ (status ≡ code MemoryOut)
   pub cause : status ≡ code Failed → NoneFailed before now → ⊥
 
--- what is asked for is in these files: a document that is accepted, or a problem
+-- what is asked for is in these files: a problem whose plain tree fits the limits, a document that is accepted, or a problem
 abbrev pub Succeeds : Table → Request → Type 0
+Succeeds files (Prove file) = (problem : ProblemData) × IsProblemOf (Some files) file problem × Fits problem
 Succeeds files (Check file tree) = IsChecked (Some files) file tree Accepted
 Succeeds files (Forms file) = (problem : ProblemData) × IsProblemOf (Some files) file problem
 

@@ -3,11 +3,12 @@
 ghost use Rattle.std.specs.Prelude.{◌≡◌, ◌≢◌, ℕ, List, Some};
 ghost use Rattle.mg_outside.specs.Reading.{Table};
 ghost use Rattle.command_line.specs.Asking.{Request, Asks};
-ghost use Rattle.command_line.specs.Replies.{Reply, IsReplyTo, IsRightReply};
+ghost use Rattle.command_line.specs.Replies.{Reply, IsRightReply};
+ghost use Rattle.command_line.specs.Runs.{AreDetermined};
 
-/// Words ask for one command at most. Where files are told, no read failed and memory was enough, one
-/// reply to the words has its cause.
+/// Words ask for one command at most. Where files are told and determine the answer, no read failed and memory was
+/// enough, one reply to the words has its cause.
 pub fn one_reply()
     ensures requests { (words : List (List ℕ)) (a b : Request) → Asks words a → Asks words b → a ≡ b }
-    ensures replies { (words : List (List ℕ)) (files : Table) (a b : Reply) → IsRightReply words files a → IsRightReply words files b → a ≡ b }
+    ensures replies { (words : List (List ℕ)) (files : Table) → AreDetermined words files → (a b : Reply) → IsRightReply words files a → IsRightReply words files b → a ≡ b }
 {}

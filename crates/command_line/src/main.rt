@@ -2,10 +2,12 @@
 #![tactic(auto)]
 
 mod check;
+mod finding;
 mod forms;
 mod laws;
 mod printout;
 mod problem;
+mod prove;
 mod putting;
 mod refusal;
 #[cfg(test)]

@@ -1,12 +1,14 @@
 //! The words after the program's name, and what they ask for.
 
 ghost use Rattle.std.specs.Prelude.{◌≡◌, ℕ, List, MatchOption, map, string_bytes};
-ghost use Rattle.command_line.specs.Asking.{Asks, Check, Forms, is_name};
+ghost use Rattle.command_line.specs.Asking.{Asks, Check, Forms, Prove, is_name};
 ghost use Rattle.command_line.specs.Requests.{AsksFor, AsksNothing};
 
 /// A command, with the names of its files.
 #[derive(Clone, Copy, Debug)]
 pub enum Request<'a> {
+    /// Whether the problem is unsatisfiable.
+    Prove { file: &'a str },
     /// Whether the tree is a proof that the problem is unsatisfiable.
     Check { file: &'a str, tree: &'a str },
     /// The forms of the problem.
@@ -21,6 +23,22 @@ fn is_name(word: &str) -> bool
         [] => false,
         [first, ..] => *first != b'-',
     }
+}
+
+// The problem's file, where the words ask for a proof.
+fn prove_name(words: &[String]) -> Option<&str>
+    ensures { MatchOption result
+        ((file : List ℕ) → Asks (map string_bytes words.now) (Prove file) → ⊥)
+        (λ name. Asks (map string_bytes words.now) (Prove name.now)) }
+{
+    let [command, file] = words else {
+        return None;
+    };
+    let file = file.as_str();
+    if command.as_str() == "prove" && is_name(file) {
+        return Some(file);
+    }
+    None
 }
 
 // The problem's file and the tree's, where the words ask for a check.
@@ -60,6 +78,9 @@ fn forms_name(words: &[String]) -> Option<&str>
 pub fn request_of(words: &[String]) -> Option<Request<'_>>
     ensures { MatchOption result (AsksNothing (map string_bytes words.now)) (AsksFor (map string_bytes words.now)) }
 {
+    if let Some(file) = prove_name(words) {
+        return Some(Request::Prove { file });
+    }
     if let Some((file, tree)) = check_names(words) {
         return Some(Request::Check { file, tree });
     }

@@ -11,6 +11,7 @@ ghost use Rattle.command_line.specs.Runs.{Runs, IsOnly, IsFailure, IsExact, outs
 use crate::check::run_check;
 use crate::forms::run_forms;
 use crate::printout::Printout;
+use crate::prove::run_prove;
 use crate::putting::put_result;
 use crate::request::{Request, request_of};
 use crate::status::Status;
@@ -25,7 +26,9 @@ fn name_of<'a>(request: &Option<Request<'a>>) -> Option<&'a str>
 {
     match request {
         None => None,
-        Some(Request::Check { file, .. } | Request::Forms { file }) => Some(szs_name(file)),
+        Some(Request::Prove { file } | Request::Check { file, .. } | Request::Forms { file }) => {
+            Some(szs_name(file))
+        }
     }
 }
 
@@ -48,6 +51,7 @@ fn reply<F: Files>(
 {
     match request {
         None => usage(alloc),
+        Some(Request::Prove { file }) => run_prove(alloc, files, file),
         Some(Request::Check { file, tree }) => run_check(alloc, files, file, tree),
         Some(Request::Forms { file }) => run_forms(alloc, files, file),
     }

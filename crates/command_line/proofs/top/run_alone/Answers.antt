@@ -17,4 +17,4 @@ pub returns-clause-failure : goal.returns-clause-failure
 returns-clause-failure g c = failure _ _ _ _ (returns-clause-runs g c)
 
 pub returns-clause-exact : goal.returns-clause-exact
-returns-clause-exact g c = exact _ _ _ _ (returns-clause-only g c)
+returns-clause-exact g c = exact _ _ _ _ (returns-clause-runs g c)

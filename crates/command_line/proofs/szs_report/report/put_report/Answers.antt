@@ -5,7 +5,7 @@ use Rattle.command_line.proofs.szs_report.report.put_report.Goals as goal
 
 pub returns-in-Failed : goal.returns-in-Failed
 returns-in-Failed g c =
-    let lines = c.deref-line-items.result.now in
-    rw (← c.report.view_is, ← c.deref-line-items.ensures.value, flat_map-split (λ line. line) lines c.loop-line.line-index c.line-item.result c.loop-line-test.true, ← c.line-item.is)
-    (PutFailed-append _ _ _ (text_of (take c.loop-line.line-index lines)) _ (text_of (drop (c.loop-line.line-index + 1) lines))
-    c.loop-line.invariant (rw c.as_slice.ensures at c.in-Failed.ensures))
+    let lines = c.deref-text-items.result.now in
+    rw (← c.report.view_is, ← c.deref-text-items.ensures.value, flat_map-split (λ line. line) lines c.loop-text.text-index c.text-item.result c.loop-text-test.true, ← c.text-item.is)
+    (PutFailed-append _ _ _ (text_of (take c.loop-text.text-index lines)) _ (text_of (drop (c.loop-text.text-index + 1) lines))
+    c.loop-text.invariant (rw c.as_slice.ensures at c.in-Failed.ensures))

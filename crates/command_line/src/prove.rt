@@ -1,0 +1,195 @@
+//! The command `prove`: the search for a proof that a problem is unsatisfiable, or for a set that satisfies it.
+
+ghost use Rattle.std.specs.Prelude.{◌≡◌, Some, IfOk, MatchResult};
+ghost use Rattle.mg_outside.specs.Counting.{CallEnds};
+ghost use Rattle.mg_word.specs.Facts.{IsProblem};
+ghost use Rattle.command_line.specs.Asking.{Prove};
+ghost use Rattle.command_line.specs.Outcomes.{proved_by};
+ghost use Rattle.command_line.specs.ProveLines.{HasLines, finding_lines, finding_status};
+ghost use Rattle.command_line.specs.Proves.{IsProved, prove_printout};
+ghost use Rattle.command_line.specs.Refusals.{IsRefusal, result_read, seen};
+ghost use Rattle.command_line.specs.Replies.{Replies};
+ghost use Rattle.command_line.specs.Searched.{AreAllowed, EndsWith, IsAtEnd, IsFound, IsRefuted, IsRun, IsSatisfied, default_limits, end_of};
+
+use crate::finding::{DEFAULT_BUDGET, DEFAULT_WEIGHT, Finding};
+use crate::printout::Printout;
+use crate::problem::problem_of;
+use crate::refusal::{Refusal, print_refusal};
+use crate::status::Status;
+use crate::szs_report::{ProveAnswer, Report, report_prove, szs_name};
+use board_tree::{TreeRefusal, tree_of};
+use mg_outside::Files;
+use mg_word::{LitSet, NoMemory, Problem};
+use proof_tree::write_doc;
+use std::alloc::Global;
+use std::sync::Arc;
+use tree_board::{Board, BoardState, Limits, Mode, finish_alone};
+use tree_checker::Doc;
+
+// How far a search goes where the words do not say so.
+fn default_limits() -> Limits
+    ensures value { result ≡ default_limits }
+    ensures allowed { AreAllowed result }
+{
+    Limits {
+        budget: DEFAULT_BUDGET,
+        weight: DEFAULT_WEIGHT,
+    }
+}
+
+// The search for the problem, gone on to its end by one worker.
+fn searched(alloc: Global, problem: Problem, limits: Limits) -> Result<Board, NoMemory>
+    requires real { IsProblem problem }
+    requires allowed { AreAllowed limits }
+    ensures { IfOk result (IsRun problem limits) }
+{
+    let problem = Arc::new(alloc, problem)?;
+    let board = Board::new(alloc, problem, Mode::Refute, limits)?;
+    finish_alone(alloc, board)
+}
+
+// The document of a board whose root is closed.
+fn proof_of(alloc: Global, board: &Board) -> Result<Doc, NoMemory>
+    requires ended { IsAtEnd board.now }
+    requires closed { end_of board.now ≡ BoardState.Closed }
+    ensures { IfOk result (IsRefuted board.now) }
+{
+    match tree_of(alloc, board) {
+        Ok(doc) => Ok(doc),
+        Err(TreeRefusal::NotClosed) => unreachable!(),
+        Err(TreeRefusal::NoMemory) => Err(NoMemory),
+    }
+}
+
+// The set of the node that the board has for a model.
+fn model_of(alloc: Global, board: &Board, node: u32) -> Result<LitSet, NoMemory>
+    requires ended { IsAtEnd board.now }
+    requires model { end_of board.now ≡ BoardState.Model node }
+    ensures { IfOk result (IsSatisfied board.now) }
+{
+    match board.lits(alloc, node)? {
+        Some(lits) => LitSet::from_lits(lits),
+        None => unreachable!(),
+    }
+}
+
+// What the search ends with.
+fn finding_of(alloc: Global, board: &Board) -> Result<Finding, NoMemory>
+    requires { IsAtEnd board.now }
+    ensures { IfOk result (EndsWith board.now) }
+{
+    match board.state() {
+        BoardState::Closed => Ok(Finding::Unsatisfiable(proof_of(alloc, board)?)),
+        BoardState::Model(node) => Ok(Finding::Satisfiable(model_of(alloc, board, node)?)),
+        BoardState::Blocked(limit) => Ok(Finding::GaveUp(limit)),
+        BoardState::Complete | BoardState::Running => unreachable!(),
+    }
+}
+
+/// A search at its end, and what it ends with.
+#[derive(Drop)]
+struct Outcome {
+    board: Board,
+    finding: Finding,
+}
+
+// The search for the problem, and what it ends with.
+fn search(alloc: Global, problem: Problem, limits: Limits) -> Result<Outcome, NoMemory>
+    requires real { IsProblem problem }
+    requires allowed { AreAllowed limits }
+    ensures run { IfOk result (λ outcome. IsRun problem limits outcome.board) }
+    ensures found { IfOk result (λ outcome. IsFound outcome.board outcome.finding) }
+{
+    let board = searched(alloc, problem, limits)?;
+    let finding = finding_of(alloc, &board)?;
+    Ok(Outcome { board, finding })
+}
+
+// The search for the problem in the file, and what it ends with.
+fn answer<'a, F: Files>(
+    alloc: Global,
+    files: &mut F,
+    file: &str,
+    limits: Limits,
+) -> Result<Outcome, Refusal<'a>>
+    requires { AreAllowed limits }
+    ensures same { F.table files.new ≡ F.table files.old }
+    ensures counted { CallEnds (result_read result) (F.counts files.old) (F.counts files.new) }
+    ensures cause { MatchResult result
+        (λ outcome. IsProved (F.table files.old) file.now limits (proved_by outcome))
+        (λ refusal. IsRefusal (Prove file.now) (F.table files.old) (seen refusal)) }
+{
+    let problem = match problem_of(alloc, files, file) {
+        Ok(problem) => problem,
+        Err(refusal) => return Err(refusal),
+    };
+    match search(alloc, problem, limits) {
+        Ok(outcome) => Ok(outcome),
+        Err(_) => Err(Refusal::MemoryOut),
+    }
+}
+
+// The report of what a search for the problem of this name ends with.
+fn report(
+    alloc: Global,
+    problem: &Problem,
+    name: &str,
+    limits: Limits,
+    finding: &Finding,
+) -> Result<Report, NoMemory>
+    requires { HasLines problem.now finding.now }
+    ensures { IfOk result (λ report. report ≡ finding_lines problem.now name.now limits finding.now) }
+{
+    match finding {
+        Finding::Unsatisfiable(doc) => {
+            let text = write_doc(alloc, doc, problem)?;
+            let answer = ProveAnswer::Unsatisfiable(&text);
+            report_prove(alloc, problem, name, answer, limits)
+        }
+        Finding::Satisfiable(set) => {
+            report_prove(alloc, problem, name, ProveAnswer::Satisfiable(set), limits)
+        }
+        Finding::GaveUp(limit) => {
+            report_prove(alloc, problem, name, ProveAnswer::GaveUp(*limit), limits)
+        }
+    }
+}
+
+// The status of a finding whose lines were put.
+fn status_of(finding: &Finding) -> Status
+    ensures { result ≡ finding_status finding.now }
+{
+    match finding {
+        Finding::Unsatisfiable(_) | Finding::Satisfiable(_) => Status::Done,
+        Finding::GaveUp(_) => Status::Rejected,
+    }
+}
+
+// What is printed of the search for the problem of this name.
+fn print(
+    alloc: Global,
+    name: &str,
+    limits: Limits,
+    outcome: &Outcome,
+) -> Result<Printout, NoMemory>
+    requires { HasLines outcome.now.board.problem outcome.now.finding }
+    ensures { IfOk result (λ printout. printout ≡ prove_printout name.now limits (proved_by outcome.now)) }
+{
+    let finding = &outcome.finding;
+    let report = report(alloc, outcome.board.problem(), name, limits, finding)?;
+    Ok(Printout::of_output(alloc, report, status_of(finding)))
+}
+
+/// Searches for a proof that the problem in the file is unsatisfiable, or for a set that satisfies it, and answers what is
+/// to be printed.
+pub fn run_prove<F: Files>(alloc: Global, files: &mut F, file: &str) -> Result<Printout, NoMemory>
+    ensures same { F.table files.new ≡ F.table files.old }
+    ensures replies { Replies (Some (Prove file.now)) (F.table files.old) (F.counts files.old) (F.counts files.new) result }
+{
+    let name = szs_name(file);
+    let limits = default_limits();
+    match answer(alloc, files, file, limits) {
+        Ok(outcome) => print(alloc, name, limits, &outcome),
+        Err(refusal) => print_refusal(alloc, name, &refusal),
+    }
+}
