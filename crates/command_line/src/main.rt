@@ -8,6 +8,8 @@ mod laws;
 mod printout;
 mod problem;
 mod prove;
+#[cfg(test)]
+mod prove_tests;
 mod putting;
 mod refusal;
 #[cfg(test)]

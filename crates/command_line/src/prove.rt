@@ -166,12 +166,7 @@ fn status_of(finding: &Finding) -> Status
 }
 
 // What is printed of the search for the problem of this name.
-fn print(
-    alloc: Global,
-    name: &str,
-    limits: Limits,
-    outcome: &Outcome,
-) -> Result<Printout, NoMemory>
+fn print(alloc: Global, name: &str, limits: Limits, outcome: &Outcome) -> Result<Printout, NoMemory>
     requires { HasLines outcome.now.board.problem outcome.now.finding }
     ensures { IfOk result (λ printout. printout ≡ prove_printout name.now limits (proved_by outcome.now)) }
 {

@@ -72,7 +72,7 @@ fn compare(
 }
 
 // Runs where nothing outside fails.
-fn check(
+pub(crate) fn check(
     rt: &impl Abort,
     alloc: Global,
     words: &[&str],

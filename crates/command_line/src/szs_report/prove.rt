@@ -80,19 +80,11 @@ fn set_text(
     let number = format!(in alloc; "{number}")?;
     let mut lits = Vec::new(alloc);
     push_set(&mut lits, symbols, set.as_slice())?;
-    joined(
-        alloc,
-        &[b"model ", number.as_bytes(), b":", &lits, b"\n"],
-    )
+    joined(alloc, &[b"model ", number.as_bytes(), b":", &lits, b"\n"])
 }
 
 // Adds the line of these words and a number.
-fn add_number(
-    alloc: Global,
-    report: &mut Report,
-    words: &str,
-    number: u32,
-) -> Result<(), NoMemory>
+fn add_number(alloc: Global, report: &mut Report, words: &str, number: u32) -> Result<(), NoMemory>
     ensures { OnOk result (report.new ≡ report.old ++ line_of (words.now ∷ decimal number ∷ []) ∷ []) }
 {
     let number = format!(in alloc; "{number}")?;
