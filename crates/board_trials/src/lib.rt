@@ -4,4 +4,6 @@
 #[cfg(test)]
 mod documents;
 #[cfg(test)]
+mod finished_boards;
+#[cfg(test)]
 mod new_boards;
