@@ -53,10 +53,7 @@ fn texts_have_their_answers(rt: HostRuntime) -> Result<(), Fail> {
         ),
         ("mgtp tree 3\nroot\n", Outcome::Fault(1, DocKind::Header)),
         ("mgtp tree 1\nroots\n", Outcome::Fault(2, DocKind::Syntax)),
-        (
-            "mgtp tree 1\nlemma 1\n",
-            Outcome::Fault(3, DocKind::Early),
-        ),
+        ("mgtp tree 1\nlemma 1\n", Outcome::Fault(3, DocKind::Early)),
         (
             "mgtp tree 1\nroot\nform 1 []\nform 2 [b]\n",
             Outcome::Fault(4, DocKind::Unknown),
