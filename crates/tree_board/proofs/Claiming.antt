@@ -1,5 +1,5 @@
 -- Claims and commits, by the lists of the board.
-use Rattle.std.proofs.Common.{◌≡◌, ◌≢◌, ◌+◌, ◌*◌, ◌<◌, ◌≤◌, ◌^◌, ◌↔◌, ℕ, zero, suc, Bool, true, false, true≢false, IsTrue, List, [], ◌∷◌, ◌++◌, length, nat_le, take, get_or, slice_get, Option, Some, None, option_map, refl, sym, ap, ap₂, subst, ◌∙◌, append_assoc, arith}
+use Rattle.std.proofs.Common.{◌≡◌, ◌+◌, ◌<◌, ◌≤◌, ◌^◌, ◌↔◌, ℕ, zero, suc, Bool, true, false, true≢false, IsTrue, List, [], ◌∷◌, ◌++◌, length, nat_le, take, get_or, slice_get, Option, Some, None, option_map, refl, sym, ap, ap₂, subst, ◌∙◌, arith}
 use Rattle.std.specs.Option.{option_map_or}
 use Rattle.std.specs.Ordering.{is_eq}
 use Rattle.std.proofs.lemmas.Bool.{le-leb, leb-false, leb-true}
@@ -27,8 +27,7 @@ use Rattle.tree_board.specs.declared.quick.Quick.TheVariants.{ByLemma as QuickBy
 use Rattle.tree_board.specs.Boards.{Board, count}
 use Rattle.tree_board.specs.CellStanding.{is_open_yet}
 use Rattle.tree_board.specs.Children.{nodes_of_cases}
-use Rattle.tree_board.specs.Claims.{AreNewOpen, IsExtension, IsOwnStep, IsSpent, IsQuickAt, IsStepWith, IsTask, event_found, open_case, open_cases, quick_event}
-use Rattle.tree_board.specs.Effects.{born}
+use Rattle.tree_board.specs.Claims.{AreNewOpen, IsExtension, IsOwnStep, IsQuickAt, IsStepWith, IsTask, event_found, open_case, open_cases, quick_event}
 use Rattle.tree_board.specs.Keeping.{IsKeeping}
 use Rattle.tree_board.specs.Lawful.{IsLawful, IsReplay, cover_for, lemma_for}
 use Rattle.tree_board.specs.NodeStates.{Open, is_open}

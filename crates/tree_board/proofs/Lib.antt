@@ -54,3 +54,4 @@ pub mod Pushing
 pub mod Walks
 pub mod Claiming
 pub mod LeafSets
+pub mod TreeSteps

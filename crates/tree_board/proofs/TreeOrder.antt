@@ -20,11 +20,11 @@ use Rattle.tree_board.proofs.Climbing.{tail_is_parents}
 use Rattle.tree_board.proofs.Replays.{replay_board}
 
 -- what is before where the lists part
-parted : (front xs ys : List ℕ) → slice_cmp nat_cmp (front ++ xs) (front ++ ys) ≡ slice_cmp nat_cmp xs ys
+pub parted : (front xs ys : List ℕ) → slice_cmp nat_cmp (front ++ xs) (front ++ ys) ≡ slice_cmp nat_cmp xs ys
 parted [] xs ys = refl
 parted (n ∷ front) xs ys = ap (λ answer. ordering_then answer (slice_cmp nat_cmp (front ++ xs) (front ++ ys))) (tied_itself nat_cmp_total n) ∙ parted front xs ys
 
-below_less : (x y : ℕ) → x < y → nat_cmp x y ≡ Less
+pub below_less : (x y : ℕ) → x < y → nat_cmp x y ≡ Less
 below_less x y less = rw (lt-ltb x y less) refl
 
 -- a node's path ends with that of each node above it

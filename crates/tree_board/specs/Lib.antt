@@ -37,3 +37,4 @@ pub mod Workers
 pub mod Working
 pub mod Claims
 pub mod FoundSets
+pub mod NextOpen

@@ -107,7 +107,7 @@ fn open_cases(alloc: Global, first: u32, cases: &[Child]) -> Result<Vec<u32>, No
 
 impl Board {
     // Whether an open node has this number.
-    fn has_open(&self, node: u32) -> bool
+    pub(crate) fn has_open(&self, node: u32) -> bool
         ensures { IsTrue result ↔ IsOpenAt (board_of self.now) node }
     {
         is_open_in(self.cells.as_slice(), node)

@@ -14,6 +14,7 @@ mod growing;
 mod laws;
 mod leaves;
 mod mode;
+mod next_open;
 mod node;
 mod quick;
 mod standing;
