@@ -1,5 +1,5 @@
 -- How many lines a text has, by its length.
-use Rattle.std.proofs.Common.{◌≡◌, ℕ, zero, suc, ◌+◌, ◌<◌, ◌≤◌, Bool, true, false, List, [], ◌∷◌, ◌++◌, map, length, nat_eq, if◌then◌else◌, refl, ap, ◌∙◌, length-append, arith}
+use Rattle.std.proofs.Common.{◌≡◌, ℕ, ◌+◌, ◌≤◌, Bool, true, false, List, [], ◌∷◌, map, length, nat_eq, if◌then◌else◌, refl, length-append, arith}
 use Rattle.std.proofs.lemmas.List.{length-map}
 use Rattle.mg_word.specs.Facts.{ProblemData}
 use Rattle.mg_word.specs.Spelling.{spelled}
@@ -7,7 +7,7 @@ use Rattle.tree_checker.specs.Docs.{lines_before}
 use Rattle.tree_checker.specs.declared.doc.LemmaBlock.{LemmaBlock}
 use Rattle.tree_checker.specs.declared.doc.TreeLine.{TreeLine}
 use Rattle.proof_tree.specs.Bare.{Spot, start, kept, passed, next_spot, kept_byte, bare_from, bare}
-use Rattle.proof_tree.specs.DocLines.{DocLine, root_line, line_text, ended}
+use Rattle.proof_tree.specs.DocLines.{DocLine, root_line, line_text}
 use Rattle.proof_tree.specs.DocText.{tree_line, block_lines, blocks_lines, doc_lines, text_of}
 
 byte_short : (spot : Spot) (byte : ℕ) → length (kept_byte spot byte) ≤ 1

@@ -1,25 +1,25 @@
 -- The lines of a well-formed document stand rightly, up to the end of the root's tree.
-use Rattle.std.proofs.Common.{◌≡◌, ◌≢◌, ℕ, zero, suc, ◌+◌, ◌^◌, ◌<◌, ◌≤◌, true, true≢false, List, [], ◌∷◌, ◌++◌, map, length, Option, Some, None, IsSome, All, refl, sym, ap, ◌∙◌, subst, append_assoc, arith}
+use Rattle.std.proofs.Common.{◌≡◌, ◌≢◌, ℕ, zero, suc, ◌+◌, ◌^◌, ◌<◌, List, [], ◌∷◌, ◌++◌, map, length, Option, Some, None, All, refl, sym, ap, ◌∙◌, subst, arith}
 use Rattle.std.specs.Option.{option_map_or}
 use Rattle.std.proofs.lemmas.List.Elements.{All-head, All-tail}
-use Rattle.mg_word.specs.Words.{numbered, lit_instances}
+use Rattle.mg_word.specs.Words.{numbered}
 use Rattle.mg_word.specs.Facts.{ProblemData}
 use Rattle.mg_word.specs.declared.lit.Lit.{Lit}
 use Rattle.mg_word.specs.declared.form.Form.{Form}
-use Rattle.tree_checker.specs.Trees.{Trees, done, tree, preorder, AreTrees, IsTree, conclusions_at, conclusions_under}
+use Rattle.tree_checker.specs.Trees.{conclusions_at, conclusions_under}
 use Rattle.tree_checker.specs.Docs.{LineFits, IsKnown, AreLines, IsBlock, IsLemmaSet, IsWellFormed}
 use Rattle.tree_checker.specs.declared.doc.Doc.{Doc}
 use Rattle.tree_checker.specs.declared.doc.LemmaBlock.{LemmaBlock}
 use Rattle.tree_checker.specs.declared.doc.TreeLine.{TreeLine}
 use Rattle.tree_checker.specs.declared.doc.TreeLine.TheVariants.{Form as FormLine, Clash, Barred, By}
 use Rattle.proof_tree.proofs.TreeCounts.{trees_left, tree_counted}
-use Rattle.proof_tree.specs.DocLines.{DocLine, header_line, lemma_line, inside_line, outside_line, root_line}
+use Rattle.proof_tree.specs.DocLines.{DocLine, root_line}
 use Rattle.tree_checker.specs.declared.doc_fault.DocKind.{DocKind}
-use Rattle.tree_checker.specs.declared.doc_fault.DocKind.TheVariants.{Header, Syntax, Block, FormNumber, Unknown, Heavy, Order, Early, Rest}
+use Rattle.tree_checker.specs.declared.doc_fault.DocKind.TheVariants.{Syntax}
 use Rattle.proof_tree.specs.FirstFaults.{LineFault}
 use Rattle.proof_tree.specs.Reading.{IsTreeAt}
 use Rattle.proof_tree.specs.DocText.{lit_in_line, tree_line, block_lines, blocks_lines, doc_lines}
-use Rattle.proof_tree.specs.Standing.{Place, at_header, at_block, at_inside, at_outside, in_block, in_root, node, kind_of, may_stand, children, behind_block, place_behind, lit_of, IsRight, StandsAt, Leads}
+use Rattle.proof_tree.specs.Standing.{Place, at_header, at_block, in_block, in_root, node, kind_of, may_stand, children, behind_block, place_behind, lit_of, IsRight, Leads}
 
 pub Leads-append : (problem : ProblemData) (first middle last : Place) (lines more : List (DocLine (List ℕ))) → Leads problem first lines middle → Leads problem middle more last → Leads problem first (lines ++ more) last
 Leads-append problem first middle last [] more here there = subst (λ p. Leads problem p more last) (sym here) there

@@ -1,28 +1,25 @@
 -- A text of a document has no first fault.
-use Rattle.std.proofs.Common.{◌≡◌, ◌≢◌, ℕ, ◌+◌, ◌-◌, ◌^◌, ◌<◌, Bool, true, false, true≢false, List, [], ◌∷◌, ◌++◌, map, length, All, refl, sym, ap, ◌∙◌, subst, append_assoc, append-nil, codes, arith}
-use Rattle.std.specs.List.{list_all}
+use Rattle.std.proofs.Common.{◌≡◌, ℕ, ◌^◌, ◌<◌, Bool, true, false, List, [], ◌∷◌, ◌++◌, map, All, refl, sym, ◌∙◌, subst, append_assoc, arith}
 use Rattle.std.specs.Fmt.{decimal}
 use Rattle.std.proofs.lemmas.List.Elements.{All-head, All-tail, All-nil, All-cons}
-use Rattle.mg_word.specs.Table.{Symbol}
-use Rattle.mg_word.specs.Facts.{ProblemData, IsProblem, is_symbol}
-use Rattle.mg_word.specs.Spelling.{spelled, spelled_sign, symbols_at}
-use Rattle.mg_word.specs.declared.lit.Lit.{Lit}
+use Rattle.mg_word.specs.Facts.{ProblemData, IsProblem}
+use Rattle.mg_word.specs.Spelling.{spelled, symbols_at}
 use Rattle.ascii_text.specs.Bytes.{is_digit, is_in_line}
 use Rattle.ascii_text.proofs.Digits.{decimal_digits}
 use Rattle.term_text.specs.Words.{IsWordOf}
-use Rattle.term_text.specs.Brackets.{after_items, in_brackets, listed}
+use Rattle.term_text.specs.Brackets.{after_items, listed}
 use Rattle.term_text.proofs.Texts.{all_weaker}
 use Rattle.term_text.proofs.Apart.{terms_apart}
 use Rattle.term_text.proofs.SymbolWords.{own_word}
 use Rattle.tree_checker.specs.Docs.{IsWellFormed}
 use Rattle.tree_checker.specs.declared.doc.Doc.{Doc}
 use Rattle.tree_checker.specs.declared.doc_fault.DocKind.{DocKind}
-use Rattle.tree_checker.specs.declared.doc_fault.DocKind.TheVariants.{Header, Syntax, Block, FormNumber, Unknown, Heavy, Order, Early, Rest}
+use Rattle.tree_checker.specs.declared.doc_fault.DocKind.TheVariants.{Early}
 use Rattle.proof_tree.specs.DocLines.{DocLine, header_line, lemma_line, inside_line, outside_line, root_line, form_line, clash_line, barred_line, by_line, line_text, ended}
 use Rattle.term_text.specs.Lits.{LineLit, lit_text}
 use Rattle.proof_tree.specs.DocText.{doc_lines, doc_text}
-use Rattle.proof_tree.specs.Standing.{Place, at_header, in_root, lit_of, place_behind, IsRight, StandsAt, Leads}
-use Rattle.proof_tree.specs.FirstFaults.{has_no_feed, BeginsWithLine, LineFault, FaultAt, FirstFault}
+use Rattle.proof_tree.specs.Standing.{Place, at_header, in_root, lit_of, place_behind, IsRight, Leads}
+use Rattle.proof_tree.specs.FirstFaults.{has_no_feed, LineFault, FaultAt, FirstFault}
 use Rattle.proof_tree.proofs.LineFeeds.{no_feed_append, digit_no_feed, within_no_feed, symbols_named, feed_in, line_unique}
 use Rattle.proof_tree.proofs.LinesApart.{HasParts, line_apart}
 use Rattle.proof_tree.proofs.RawLines.{small_number}

@@ -1,5 +1,5 @@
 -- Faults of a text from a place on, and the front of a tree or of blocks that a text has.
-use Rattle.std.proofs.Common.{◌≡◌, ◌≢◌, ℕ, zero, suc, ◌+◌, ◌-◌, ◌*◌, ◌^◌, ◌≤◌, ◌<◌, true, List, [], ◌∷◌, ◌++◌, map, length, Option, Some, None, All, refl, sym, ap, ◌∙◌, subst, append_assoc, length-append, codes, arith}
+use Rattle.std.proofs.Common.{◌≡◌, ◌≢◌, ℕ, zero, suc, ◌+◌, ◌-◌, ◌^◌, ◌≤◌, ◌<◌, true, List, [], ◌∷◌, ◌++◌, map, length, Some, All, refl, sym, ap, ◌∙◌, subst, append_assoc, length-append, codes, arith}
 use Rattle.std.specs.Fmt.{decimal}
 use Rattle.std.proofs.lemmas.List.{map-append, length-map}
 use Rattle.std.proofs.lemmas.List.Elements.{All-nil, All-push}
@@ -7,18 +7,18 @@ use Rattle.mg_word.specs.Facts.{ProblemData}
 use Rattle.mg_word.specs.Spelling.{spelled}
 use Rattle.mg_word.specs.declared.lit.Lit.{Lit}
 use Rattle.tree_checker.specs.Trees.{conclusions_at}
-use Rattle.tree_checker.specs.Docs.{LineFits, IsKnown, IsBlock, AreLines}
+use Rattle.tree_checker.specs.Docs.{LineFits, IsKnown, IsBlock}
 use Rattle.tree_checker.specs.declared.doc.LemmaBlock.{LemmaBlock}
 use Rattle.tree_checker.specs.declared.doc.TreeLine.{TreeLine}
 use Rattle.tree_checker.specs.declared.doc_fault.DocKind.{DocKind}
-use Rattle.tree_checker.specs.declared.doc_fault.DocKind.TheVariants.{Header, Syntax, Block, FormNumber, Unknown, Heavy, Order, Early, Rest}
+use Rattle.tree_checker.specs.declared.doc_fault.DocKind.TheVariants.{Early}
 use Rattle.tree_checker.specs.declared.doc_fault.DocFault.{DocFault}
 use Rattle.tree_checker.specs.declared.doc_fault.DocFault.TheVariants.{Line, NoMemory as OutOfMemory}
 use Rattle.proof_tree.specs.DocLines.{DocLine, lemma_line, inside_line, outside_line, line_text, ended}
 use Rattle.proof_tree.specs.DocText.{lit_in_line, tree_line, inner_lines, block_lines, blocks_lines, text_of}
 use Rattle.proof_tree.specs.Standing.{Place, at_header, at_block, at_inside, at_outside, in_block, in_root, Leads}
 use Rattle.proof_tree.specs.FirstFaults.{LineFault, has_no_feed, BeginsWithLine, FaultAt, FaultFrom}
-use Rattle.proof_tree.specs.Reading.{IsNode, IsNoNode, SetFault, IsNoSetText, fault_of, IsFaultFrom, IsSetAt, IsTreeAt, BeginsWithSet, BeginsWithTree, BeginsWithBlock, BeginsWithBlocks}
+use Rattle.proof_tree.specs.Reading.{IsNode, IsNoNode, IsNoSetText, fault_of, IsFaultFrom, IsSetAt, IsTreeAt, BeginsWithSet, BeginsWithTree, BeginsWithBlock, BeginsWithBlocks}
 use Rattle.proof_tree.specs.declared.line_fault.LineFault.{LineFault as Fault}
 use Rattle.proof_tree.specs.declared.line_fault.LineFault.TheVariants.{Wrong, NoMemory}
 use Rattle.proof_tree.proofs.DocLeads.{Leads-append, lemma_set, counted_leads, blocks_lead}

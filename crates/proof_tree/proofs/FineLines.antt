@@ -1,17 +1,13 @@
 -- A line that stands rightly has no fault, since it is spelled as one raw line alone.
-use Rattle.std.proofs.Common.{◌≡◌, ◌≢◌, ℕ, zero, suc, ◌+◌, ◌^◌, ◌<◌, ◌≤◌, Bool, true, false, true≢false, ◌&&◌, List, [], ◌∷◌, ◌++◌, map, length, slice_index_or, slice_get, Option, Some, None, IsSome, All, Any, AllPairs, refl, sym, ap, ◌∙◌, subst, append_assoc, arith}
-use Rattle.std.specs.List.{list_all}
-use Rattle.std.proofs.lemmas.List.Elements.{All-head, All-tail, All-nil, All-cons, All-map}
+use Rattle.std.proofs.Common.{◌≡◌, ℕ, zero, suc, true, true≢false, List, [], ◌∷◌, ◌++◌, map, IsSome, All, refl, sym, ap, ◌∙◌, subst, arith}
+use Rattle.std.proofs.lemmas.List.Elements.{All-head, All-tail, All-nil, All-cons}
 use Rattle.mg_word.specs.Table.{Symbol}
-use Rattle.mg_word.specs.Words.{numbered}
 use Rattle.mg_word.specs.Sets.{is_rising}
-use Rattle.mg_word.specs.Facts.{ProblemData, IsProblem, is_symbol}
-use Rattle.mg_word.specs.Spelling.{spelled, spelled_symbols, spelled_name, spelled_within, symbol_piece, symbols_at, behind, open_behind}
+use Rattle.mg_word.specs.Facts.{ProblemData, IsProblem}
+use Rattle.mg_word.specs.Spelling.{spelled, spelled_symbols, symbols_at}
 use Rattle.mg_word.specs.declared.lit.Lit.{Lit}
-use Rattle.mg_word.specs.declared.form.Form.{Form}
-use Rattle.mg_word.proofs.Members.{both_true}
 use Rattle.term_text.specs.Words.{IsWordOf}
-use Rattle.term_text.specs.OwnTerms.{are_own_terms, IsOwnTerm, IsSymbolOf, HasUnknown, AllKnown, IsHeavy, IsLight, AreNumbers}
+use Rattle.term_text.specs.OwnTerms.{IsOwnTerm, IsSymbolOf, HasUnknown, AllKnown, IsHeavy, IsLight}
 use Rattle.term_text.proofs.Once.{term_once}
 use Rattle.term_text.proofs.Apart.{AreApart, no_term_at_end}
 use Rattle.term_text.proofs.LitItems.{unsigned}
@@ -19,11 +15,11 @@ use Rattle.term_text.proofs.SymbolWords.{known_word, length_at, numbers_word, nu
 use Rattle.tree_checker.specs.Docs.{IsLemmaSet}
 use Rattle.proof_tree.specs.DocLines.{DocLine, header_line, lemma_line, inside_line, outside_line, root_line, form_line, clash_line, barred_line, by_line, line_text}
 use Rattle.term_text.specs.Lits.{LineLit}
-use Rattle.proof_tree.specs.Standing.{Place, at_header, at_block, at_inside, at_outside, in_block, in_root, kind_of, may_stand, lit_of, IsRight, StandsAt, next_number}
+use Rattle.proof_tree.specs.Standing.{Place, at_header, at_block, at_inside, at_outside, in_block, in_root, kind_of, may_stand, lit_of, IsRight, StandsAt}
 use Rattle.proof_tree.specs.FirstFaults.{RawLine, words_of, HasSmallNumber, IsSpelled, HasOtherNumber, HasNoForm, AreUnordered, HasNoOrder, RawFault, StandsNowhere, LineFault}
-use Rattle.term_text.specs.Lits.{AreLits, atoms}
+use Rattle.term_text.specs.Lits.{AreLits}
 use Rattle.tree_checker.specs.declared.doc_fault.DocKind.{DocKind}
-use Rattle.tree_checker.specs.declared.doc_fault.DocKind.TheVariants.{Header, Syntax, Block, FormNumber, Unknown, Heavy, Order, Early, Rest}
+use Rattle.tree_checker.specs.declared.doc_fault.DocKind.TheVariants.{Header, Syntax, Block, FormNumber, Unknown, Heavy, Order}
 use Rattle.proof_tree.proofs.Quantified.{any_all}
 use Rattle.proof_tree.proofs.LinesApart.{HasParts, line_apart}
 use Rattle.proof_tree.proofs.RawLines.{raw_lit, raw_line, raw_kind, raw_words, raw_spelled}

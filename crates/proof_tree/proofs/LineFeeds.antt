@@ -1,20 +1,18 @@
 -- No line feed is in what is spelled, so a text begins with one line alone.
-use Rattle.std.proofs.Common.{◌≡◌, ℕ, zero, suc, Bool, true, false, true≢false, ◌||◌, if◌then◌else◌, nat_eq, List, [], ◌∷◌, ◌++◌, map, Option, Some, None, refl, sym, codes, arith, slice_get}
+use Rattle.std.proofs.Common.{◌≡◌, ℕ, zero, suc, Bool, true, false, true≢false, ◌||◌, if◌then◌else◌, nat_eq, List, [], ◌∷◌, ◌++◌, map, Option, Some, None, refl, sym, arith, slice_get}
 use Rattle.std.specs.List.{list_all, flat_map}
-use Rattle.std.specs.Fmt.{decimal}
 use Rattle.std.proofs.lemmas.Bool.Decides.{nat_tests}
 use Rattle.mg_word.specs.Table.{Symbol}
-use Rattle.mg_word.specs.Facts.{ProblemData, is_symbol, is_digit, is_name_byte}
+use Rattle.mg_word.specs.Facts.{is_symbol, is_digit, is_name_byte}
 use Rattle.std.specs.Option.{option_to_list}
 use Rattle.mg_word.specs.declared.symbol.Kind.{Kind}
 use Rattle.mg_word.specs.declared.symbol.Kind.TheVariants.{Word, Integer, Distinct}
-use Rattle.mg_word.specs.Spelling.{is_lower_word, spelled, symbols_at, spelled_within, symbol_piece, spelled_name, behind, open_behind, closing, escaped, quoted}
+use Rattle.mg_word.specs.Spelling.{is_lower_word, symbols_at, spelled_within, symbol_piece, spelled_name, behind, open_behind, closing, escaped, quoted}
 use Rattle.ascii_text.specs.Bytes.{is_in_line}
 use Rattle.proof_tree.specs.FirstFaults.{has_no_feed}
 use Rattle.mg_word.proofs.Members.{both_true, and_true}
 use Rattle.ascii_text.proofs.Cuts.{cut_unique}
 use Rattle.term_text.proofs.Texts.{tails, all_weaker}
-use Rattle.ascii_text.proofs.Digits.{decimal_digits}
 use Rattle.term_text.proofs.LookUps.{name_bytes}
 use Rattle.term_text.proofs.SymbolWords.{passes_at}
 

@@ -1,14 +1,13 @@
 -- Lines that are spelled alike are the same, whatever follows, where the words that they name are spelled apart.
-use Rattle.std.proofs.Common.{◌≡◌, ℕ, ◌+◌, ◌*◌, ◌^◌, ◌<◌, Bool, true, false, List, [], ◌∷◌, ◌++◌, map, drop, get_or, All, refl, sym, ap, ◌∙◌, append_assoc, arith}
+use Rattle.std.proofs.Common.{◌≡◌, ℕ, ◌+◌, ◌*◌, ◌^◌, ◌<◌, Bool, true, false, List, ◌∷◌, ◌++◌, map, drop, get_or, All, refl, sym, ap, ◌∙◌, append_assoc, arith}
 use Rattle.std.specs.Fmt.{decimal}
-use Rattle.std.proofs.lemmas.List.Elements.{All-head, All-tail, All-nil, All-cons}
 use Rattle.mg_word.specs.OneSpelling.{ends_word}
 use Rattle.term_text.specs.Brackets.{listed}
 use Rattle.term_text.specs.Terms.{ends_term}
 use Rattle.term_text.proofs.Texts.{heads, tails}
 use Rattle.term_text.proofs.Apart.{AreApart, numbers_apart, lists_apart}
 use Rattle.proof_tree.specs.DocLines.{DocLine, header_line, lemma_line, inside_line, outside_line, root_line, form_line, clash_line, barred_line, by_line, line_text}
-use Rattle.term_text.specs.Lits.{LineLit, lit_text}
+use Rattle.term_text.specs.Lits.{lit_text}
 
 -- the first two bytes of a text, as one number
 abbrev pub front_of : List ℕ → ℕ

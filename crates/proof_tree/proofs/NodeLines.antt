@@ -1,5 +1,5 @@
 -- Lines of trees, by what stands behind their first word.
-use Rattle.std.proofs.Common.{◌≡◌, ℕ, zero, suc, ◌+◌, ◌^◌, ◌≤◌, ◌<◌, Bool, true, false, true≢false, List, [], ◌∷◌, ◌++◌, map, length, drop, slice_get, Option, Some, None, IsSome, All, Any, MatchBool, MatchResult, Result, Ok, Err, refl, sym, ap, ◌∙◌, subst, inl, inr, codes, arith}
+use Rattle.std.proofs.Common.{◌≡◌, ℕ, zero, suc, Bool, true, false, true≢false, List, [], ◌∷◌, ◌++◌, map, length, drop, slice_get, Option, Some, None, IsSome, All, Any, MatchBool, MatchResult, Result, Ok, Err, refl, sym, ap, ◌∙◌, subst, inl, inr, codes, arith}
 use Rattle.std.specs.List.{list_all}
 use Rattle.std.specs.Fmt.{decimal}
 use Rattle.std.proofs.lemmas.Option.{slice_get_within, slice_get_cases}
@@ -13,19 +13,18 @@ use Rattle.mg_word.specs.declared.form.Form.{Form}
 use Rattle.mg_word.specs.declared.lit.Lit.{Lit}
 use Rattle.ascii_text.specs.Numbers.{IsValue}
 use Rattle.term_text.specs.Brackets.{listed, in_brackets}
-use Rattle.term_text.specs.Lits.{LineLit, RawLit, raw_text, lit_text, IsOwnLit, IsLit}
-use Rattle.term_text.specs.Lists.{NoList, NoLit, IsListRead}
+use Rattle.term_text.specs.Lits.{RawLit, raw_text, lit_text, IsOwnLit, IsLit}
+use Rattle.term_text.specs.Lists.{NoList, IsListRead}
 use Rattle.term_text.specs.OwnTerms.{IsOwnTerm, HasUnknown, AllKnown, IsHeavy, IsLight}
 use Rattle.term_text.proofs.Apart.{numbers_apart}
 use Rattle.term_text.proofs.Texts.{tails}
 use Rattle.term_text.proofs.SymbolWords.{map_map, terms_of_words, words_fit, symbols_of_numbers, numbers_fit, numbers_length}
 use Rattle.tree_checker.specs.declared.doc.TreeLine.{TreeLine}
 use Rattle.tree_checker.specs.declared.doc.TreeLine.TheVariants.{Form as FormLine, Clash, Barred, By}
-use Rattle.tree_checker.specs.declared.doc_fault.DocKind.{DocKind}
 use Rattle.tree_checker.specs.declared.doc_fault.DocKind.TheVariants.{Header, Syntax, Block, FormNumber, Unknown, Heavy, Order, Early, Rest}
-use Rattle.proof_tree.specs.DocLines.{DocLine, header_line, lemma_line, inside_line, outside_line, root_line, form_line, clash_line, barred_line, by_line, line_text}
-use Rattle.proof_tree.specs.Standing.{in_root, kind_of, may_stand}
-use Rattle.proof_tree.specs.FirstFaults.{RawLine, IsSpelled, StandsNowhere}
+use Rattle.proof_tree.specs.DocLines.{form_line, clash_line, barred_line, by_line}
+use Rattle.proof_tree.specs.Standing.{in_root}
+use Rattle.proof_tree.specs.FirstFaults.{IsSpelled, StandsNowhere}
 use Rattle.proof_tree.specs.Reading.{IsNode, IsNoNode, IsSplitSo, IsNumbered, IsRefused, IsLitText, IsNoLitText}
 use Rattle.proof_tree.specs.declared.line_fault.LineFault.{LineFault as Fault}
 use Rattle.proof_tree.specs.declared.line_fault.LineFault.TheVariants.{Wrong, NoMemory}

@@ -1,5 +1,5 @@
 -- A text has at most one first fault: two fronts of it are one, or one goes on where the other has a fault.
-use Rattle.std.proofs.Common.{◌≡◌, ◌≢◌, ℕ, zero, suc, ◌+◌, true, true≢false, List, [], ◌∷◌, ◌++◌, map, length, None, All, Any, refl, sym, ap, ◌∙◌, subst, append_assoc, arith}
+use Rattle.std.proofs.Common.{◌≡◌, ◌≢◌, ℕ, zero, suc, ◌+◌, true, List, [], ◌∷◌, ◌++◌, map, length, All, Any, refl, sym, ap, ◌∙◌, subst, append_assoc, arith}
 use Rattle.mg_word.specs.Table.{Symbol}
 use Rattle.mg_word.specs.Facts.{ProblemData, IsProblem}
 use Rattle.mg_word.specs.Spelling.{spelled}
@@ -9,13 +9,12 @@ use Rattle.tree_checker.specs.declared.doc_fault.DocKind.TheVariants.{Header, Sy
 use Rattle.tree_checker.specs.declared.doc_fault.DocFault.{DocFault}
 use Rattle.tree_checker.specs.declared.doc_fault.DocFault.TheVariants.{Line, NoMemory}
 use Rattle.proof_tree.specs.DocLines.{DocLine, header_line, lemma_line, inside_line, outside_line, root_line, form_line, clash_line, barred_line, by_line, line_text, ended}
-use Rattle.proof_tree.specs.Bare.{bare}
 use Rattle.proof_tree.specs.Standing.{Place, at_header, at_block, at_inside, at_outside, in_block, in_root, kind_of, may_stand, place_behind, StandsAt, Leads}
-use Rattle.proof_tree.specs.FirstFaults.{RawLine, words_of, IsSpelled, HasOtherNumber, HasNoForm, HasNoOrder, RawFault, StandsNowhere, LineFault, has_no_feed, BeginsWithLine, FaultAt, FirstFault, IsDocFault}
+use Rattle.proof_tree.specs.FirstFaults.{RawLine, words_of, IsSpelled, HasOtherNumber, HasNoForm, HasNoOrder, RawFault, StandsNowhere, LineFault, has_no_feed, BeginsWithLine, FaultAt, IsDocFault}
 use Rattle.proof_tree.proofs.Quantified.{any_all}
 use Rattle.proof_tree.proofs.LineFeeds.{feed_in, line_unique}
 use Rattle.proof_tree.proofs.FineLines.{raw_once, fine}
-use Rattle.proof_tree.proofs.DocOrFault.{line_none, right_parts, lines_apart, no_text}
+use Rattle.proof_tree.proofs.DocOrFault.{line_none, right_parts, lines_apart}
 
 -- what is wrong with a line that may stand there, kind by kind
 data RawSeen (problem : ProblemData) (place : Place) (line : RawLine) (kind : DocKind) : Type 0 where

@@ -1,13 +1,11 @@
 -- A right line as it is spelled: its words as terms by their own symbols.
-use Rattle.std.proofs.Common.{◌≡◌, ◌≢◌, ℕ, zero, suc, ◌+◌, ◌-◌, ◌^◌, ◌<◌, ◌≤◌, Bool, true, false, true≢false, List, [], ◌∷◌, ◌++◌, map, length, slice_index_or, slice_get, Option, Some, None, IsSome, All, AllPairs, refl, sym, ap, ◌∙◌, subst, codes, arith}
-use Rattle.std.specs.List.{list_all}
+use Rattle.std.proofs.Common.{◌≡◌, ℕ, zero, suc, ◌-◌, ◌^◌, ◌<◌, true≢false, List, [], ◌∷◌, ◌++◌, map, length, slice_index_or, slice_get, Option, Some, None, IsSome, All, refl, sym, ap, codes, arith}
 use Rattle.std.specs.Fmt.{decimal}
-use Rattle.mg_word.specs.declared.lit.Lit.{Lit}
 use Rattle.std.proofs.lemmas.Option.{slice_get_within}
 use Rattle.std.proofs.lemmas.List.Elements.{All-map, All-nil, All-cons, All-head, All-tail}
 use Rattle.mg_word.specs.Table.{Symbol}
-use Rattle.mg_word.specs.Words.{numbered, fits}
-use Rattle.mg_word.specs.Facts.{ProblemData, IsProblem, is_symbol}
+use Rattle.mg_word.specs.Words.{numbered}
+use Rattle.mg_word.specs.Facts.{ProblemData, IsProblem}
 use Rattle.mg_word.specs.Spelling.{spelled, spelled_symbols, symbols_at}
 use Rattle.mg_word.specs.declared.form.Form.{Form}
 use Rattle.term_text.specs.Words.{IsWordOf}
@@ -16,7 +14,7 @@ use Rattle.term_text.specs.Brackets.{listed}
 use Rattle.term_text.proofs.SymbolWords.{own_word}
 use Rattle.proof_tree.specs.DocLines.{DocLine, header_line, lemma_line, inside_line, outside_line, root_line, form_line, clash_line, barred_line, by_line, line_text}
 use Rattle.term_text.specs.Lits.{LineLit, lit_text}
-use Rattle.proof_tree.specs.Standing.{Place, kind_of, lit_of, IsRight, StandsAt, next_number}
+use Rattle.proof_tree.specs.Standing.{Place, kind_of, lit_of, IsRight}
 use Rattle.proof_tree.specs.FirstFaults.{RawLine, words_of, HasSmallNumber, IsSpelled}
 
 -- the literal with its atom as a term

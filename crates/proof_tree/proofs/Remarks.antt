@@ -1,5 +1,5 @@
 -- Lines that begin with `%` may stand between the lines of a document.
-use Rattle.std.proofs.Common.{◌≡◌, ℕ, Bool, true, false, List, [], ◌∷◌, ◌++◌, map, if◌then◌else◌, All, refl, sym, ap, ◌∙◌, subst}
+use Rattle.std.proofs.Common.{◌≡◌, ℕ, Bool, true, false, List, [], ◌∷◌, ◌++◌, map, if◌then◌else◌, All, refl, ap, ◌∙◌}
 use Rattle.std.proofs.lemmas.List.Elements.{All-head, All-tail, All-cons, All-nil}
 use Rattle.mg_word.specs.Facts.{ProblemData, IsProblem}
 use Rattle.mg_word.specs.Spelling.{spelled}
@@ -26,14 +26,11 @@ first_tells (byte ∷ line) after = refl
 -- of lines those stay that do not begin with `%`
 bare_counted : (lines : List (List ℕ)) → All IsWhole lines → bare (ended lines) ≡ ended (counted lines)
 bare_counted [] whole = refl
-bare_counted (line ∷ lines) whole = by (begins_with (37 ∷ []) line) (first_tells line (ended lines))
+bare_counted (line ∷ lines) whole = by (begins_with (37 ∷ []) line) (first_tells line (ended lines)) (bare_counted lines (All-tail IsWhole line lines whole))
   where
-    rest : bare (ended lines) ≡ ended (counted lines)
-    rest = bare_counted lines (All-tail IsWhole line lines whole)
-
-    by : (b : Bool) → begins_with (37 ∷ []) (line ++ 10 ∷ ended lines) ≡ b → bare (line ++ 10 ∷ ended lines) ≡ ended (if b then counted lines else line ∷ counted lines)
-    by true is = line_passed line (ended lines) (All-head IsWhole line lines whole) is ∙ rest
-    by false is = (line_kept line (ended lines) (All-head IsWhole line lines whole) is).split ∙ ap (λ t. line ++ 10 ∷ t) rest
+    by : (b : Bool) → begins_with (37 ∷ []) (line ++ 10 ∷ ended lines) ≡ b → bare (ended lines) ≡ ended (counted lines) → bare (line ++ 10 ∷ ended lines) ≡ ended (if b then counted lines else line ∷ counted lines)
+    by true is rest = line_passed line (ended lines) (All-head IsWhole line lines whole) is ∙ rest
+    by false is rest = (line_kept line (ended lines) (All-head IsWhole line lines whole) is).split ∙ ap (λ t. line ++ 10 ∷ t) rest
 
 pub among_remarks : (problem : ProblemData) (doc : Doc) → IsWellFormed problem doc → (lines : List (List ℕ)) → All IsWhole lines → counted lines ≡ map (line_text (spelled problem.symbols)) (doc_lines doc) → IsDocText problem doc (ended lines)
 among_remarks problem doc well lines whole same = record { well_formed = well; text = bare_counted lines whole ∙ ap ended same }

@@ -1,5 +1,5 @@
 -- Lines of sets, and the line that begins a block or the root.
-use Rattle.std.proofs.Common.{◌≡◌, ◌≢◌, ℕ, zero, suc, ◌+◌, ◌^◌, ◌≤◌, ◌<◌, Bool, true, false, true≢false, List, [], ◌∷◌, ◌++◌, map, length, drop, All, Any, MatchBool, MatchResult, Result, Ok, Err, refl, sym, ap, ◌∙◌, subst, codes, arith}
+use Rattle.std.proofs.Common.{◌≡◌, ◌≢◌, ℕ, suc, Bool, true, false, true≢false, List, [], ◌∷◌, ◌++◌, map, drop, All, Any, MatchBool, MatchResult, Result, Ok, Err, refl, sym, ap, ◌∙◌, subst, codes, arith}
 use Rattle.std.specs.List.{list_all}
 use Rattle.std.specs.Fmt.{decimal}
 use Rattle.std.proofs.lemmas.List.{append_cancel_left}
@@ -12,16 +12,16 @@ use Rattle.mg_word.specs.declared.lit.Lit.{Lit}
 use Rattle.mg_word.proofs.RisingLists.{set_exact}
 use Rattle.ascii_text.specs.Numbers.{IsValue}
 use Rattle.term_text.specs.Brackets.{listed, in_brackets}
-use Rattle.term_text.specs.Lits.{RawLit, raw_text, lit_text, IsOwnLit, IsLit, AreLits, atoms}
+use Rattle.term_text.specs.Lits.{RawLit, raw_text, lit_text, IsOwnLit, AreLits, atoms}
 use Rattle.term_text.specs.Lists.{NoList, AreLitsRead}
 use Rattle.term_text.specs.OwnTerms.{IsOwnTerm, HasUnknown, AllKnown, IsHeavy, IsLight}
 use Rattle.term_text.specs.Words.{IsWordOf, AreLitsOf}
 use Rattle.tree_checker.specs.declared.doc_fault.DocKind.{DocKind}
 use Rattle.tree_checker.specs.declared.doc_fault.DocKind.TheVariants.{Header, Syntax, Block, FormNumber, Unknown, Heavy, Order, Early, Rest}
-use Rattle.proof_tree.specs.DocLines.{DocLine, header_line, lemma_line, inside_line, outside_line, root_line, form_line, clash_line, barred_line, by_line, line_text}
+use Rattle.proof_tree.specs.DocLines.{lemma_line, inside_line, outside_line, root_line}
 use Rattle.proof_tree.specs.DocText.{lit_in_line}
-use Rattle.proof_tree.specs.Standing.{at_block, at_inside, at_outside, in_root, kind_of, may_stand}
-use Rattle.proof_tree.specs.FirstFaults.{RawLine, IsSpelled, StandsNowhere, LineFault}
+use Rattle.proof_tree.specs.Standing.{at_block, at_inside, at_outside}
+use Rattle.proof_tree.specs.FirstFaults.{IsSpelled, StandsNowhere, LineFault}
 use Rattle.proof_tree.specs.Reading.{IsSetText, IsNoSetText, IsRawSet, SetFault, IsSetOf, IsRefusedSet, IsSetAt}
 use Rattle.proof_tree.specs.declared.line_fault.LineFault.{LineFault as Fault}
 use Rattle.proof_tree.specs.declared.line_fault.LineFault.TheVariants.{Wrong, NoMemory}

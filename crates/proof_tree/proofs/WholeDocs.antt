@@ -1,23 +1,22 @@
 -- What the parts of a text say of it as a whole.
-use Rattle.std.proofs.Common.{◌≡◌, ◌≢◌, ℕ, zero, suc, ◌+◌, ◌^◌, ◌<◌, ◌≤◌, Bool, true, false, true≢false, List, [], ◌∷◌, ◌++◌, map, length, nat_eq, if◌then◌else◌, refl, sym, ap, ◌∙◌, subst, append_assoc, append-nil, length-append, codes, arith}
+use Rattle.std.proofs.Common.{◌≡◌, ◌≢◌, ℕ, ◌+◌, ◌^◌, ◌<◌, true≢false, List, [], ◌∷◌, ◌++◌, map, length, refl, sym, ap, ◌∙◌, append-nil, codes, arith}
 use Rattle.std.proofs.lemmas.List.{length-map}
 use Rattle.mg_word.specs.Facts.{ProblemData, IsProblem}
-use Rattle.mg_word.specs.Spelling.{spelled}
-use Rattle.tree_checker.specs.Docs.{IsWellFormed, lines_before, header_count, block_head_count, root_head_count}
+use Rattle.tree_checker.specs.Docs.{lines_before}
 use Rattle.tree_checker.specs.declared.doc.Doc.{Doc}
 use Rattle.tree_checker.specs.declared.doc.LemmaBlock.{LemmaBlock}
 use Rattle.tree_checker.specs.declared.doc.TreeLine.{TreeLine}
 use Rattle.tree_checker.specs.declared.doc_fault.DocKind.{DocKind}
-use Rattle.tree_checker.specs.declared.doc_fault.DocKind.TheVariants.{Header, Syntax, Block, FormNumber, Unknown, Heavy, Order, Early, Rest}
+use Rattle.tree_checker.specs.declared.doc_fault.DocKind.TheVariants.{Header}
 use Rattle.tree_checker.specs.declared.doc_fault.DocFault.{DocFault}
 use Rattle.tree_checker.specs.declared.doc_fault.DocFault.TheVariants.{Line, NoMemory}
-use Rattle.proof_tree.specs.Bare.{Spot, start, kept, passed, next_spot, kept_byte, bare_from, bare}
-use Rattle.proof_tree.specs.DocLines.{DocLine, header_line, root_line, line_text, ended}
-use Rattle.proof_tree.specs.DocText.{tree_line, block_lines, blocks_lines, doc_lines, doc_text, text_of, IsDocText}
-use Rattle.proof_tree.specs.Standing.{Place, at_header, at_block, in_root, Leads, kind_of, may_stand}
-use Rattle.proof_tree.specs.FirstFaults.{IsSpelled, StandsNowhere, LineFault, BeginsWithLine, FaultAt, FirstFault, IsDocFault}
+use Rattle.proof_tree.specs.Bare.{bare}
+use Rattle.proof_tree.specs.DocLines.{header_line, root_line}
+use Rattle.proof_tree.specs.DocText.{tree_line, blocks_lines, doc_lines, doc_text, text_of, IsDocText}
+use Rattle.proof_tree.specs.Standing.{at_header, at_block, in_root}
+use Rattle.proof_tree.specs.FirstFaults.{StandsNowhere, BeginsWithLine, FaultAt, IsDocFault}
 use Rattle.proof_tree.specs.Reading.{IsFaultFrom, BeginsWithTree, BeginsWithBlocks}
-use Rattle.proof_tree.proofs.DocLeads.{Leads-append, root_places, tree_leads, doc_leads}
+use Rattle.proof_tree.proofs.DocLeads.{root_places, tree_leads}
 use Rattle.proof_tree.proofs.DocOrFault.{doc_or_fault}
 use Rattle.proof_tree.proofs.DocsApart.{docs_apart}
 use Rattle.proof_tree.proofs.FaultsFrom.{fault_behind, start_fault, text_on, one_line, wrong_here}

@@ -1,7 +1,6 @@
 -- Texts of lines that are written one after another.
 use Rattle.std.proofs.Common.{◌≡◌, ℕ, ◌+◌, ◌<◌, ◌≤◌, List, [], ◌∷◌, ◌++◌, map, length, take, get_or, refl, sym, ap, ◌∙◌, append_assoc, append-nil, codes, arith, zero, suc}
-use Rattle.std.proofs.lemmas.List.{take_more, take_all, map-append}
-use Rattle.mg_word.specs.Table.{Symbol}
+use Rattle.std.proofs.lemmas.List.{take_more, map-append}
 use Rattle.tree_checker.specs.declared.doc.LemmaBlock.{LemmaBlock}
 use Rattle.mg_word.specs.Facts.{ProblemData}
 use Rattle.mg_word.specs.Spelling.{spelled, spelled_lit}

@@ -1,5 +1,5 @@
 -- The first fault of a text that is no document: what stands before it, and what is wrong with its line.
-use Rattle.std.specs.Prelude.{◌≡◌, ◌≢◌, ℕ, zero, suc, ◌+◌, ◌<◌, ◌^◌, Bool, true, false, List, [], ◌∷◌, ◌++◌, map, length, All, Any, None}
+use Rattle.std.specs.Prelude.{◌≡◌, ◌≢◌, ℕ, zero, ◌+◌, ◌<◌, ◌^◌, Bool, true, false, List, [], ◌∷◌, ◌++◌, map, length, All, Any, None}
 use Rattle.std.specs.List.{list_all}
 use Rattle.mg_word.specs.Table.{Symbol}
 use Rattle.mg_word.specs.Words.{numbered}
@@ -14,9 +14,9 @@ use Rattle.tree_checker.specs.declared.doc_fault.DocKind.{DocKind}
 use Rattle.tree_checker.specs.declared.doc_fault.DocKind.TheVariants.{Header, Syntax, Block, FormNumber, Unknown, Heavy, Order, Early, Rest}
 use Rattle.tree_checker.specs.declared.doc_fault.DocFault.{DocFault}
 use Rattle.tree_checker.specs.declared.doc_fault.DocFault.TheVariants.{Line, NoMemory}
-use Rattle.proof_tree.specs.DocLines.{DocLine, header_line, lemma_line, inside_line, outside_line, root_line, form_line, clash_line, barred_line, by_line, line_text, ended}
+use Rattle.proof_tree.specs.DocLines.{DocLine, lemma_line, inside_line, outside_line, form_line, clash_line, barred_line, by_line, line_text, ended}
 use Rattle.proof_tree.specs.Bare.{bare}
-use Rattle.proof_tree.specs.Standing.{Place, at_header, at_block, at_inside, at_outside, in_block, in_root, next_number, kind_of, may_stand, Leads}
+use Rattle.proof_tree.specs.Standing.{Place, at_header, in_root, next_number, kind_of, may_stand, Leads}
 
 -- a line as it is spelled: its words are terms by their own symbols, which may be in no table
 abbrev pub RawLine : Type 0

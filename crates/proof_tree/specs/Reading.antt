@@ -1,5 +1,5 @@
 -- What the reading of lines, sets, trees and blocks answers. No public clause cites this module.
-use Rattle.std.specs.Prelude.{◌≡◌, ◌≢◌, ℕ, zero, suc, ◌+◌, ◌<◌, ◌≤◌, ◌^◌, Bool, true, false, List, [], ◌∷◌, ◌++◌, map, length, codes, All, Any}
+use Rattle.std.specs.Prelude.{◌≡◌, ◌≢◌, ℕ, suc, ◌+◌, ◌<◌, ◌≤◌, ◌^◌, Bool, true, false, List, [], ◌∷◌, ◌++◌, map, length, codes, All, Any}
 use Rattle.std.specs.Fmt.{decimal}
 use Rattle.mg_word.specs.Table.{Symbol}
 use Rattle.mg_word.specs.Facts.{ProblemData}
@@ -18,10 +18,10 @@ use Rattle.tree_checker.specs.declared.doc_fault.DocKind.{DocKind}
 use Rattle.tree_checker.specs.declared.doc_fault.DocKind.TheVariants.{Syntax, FormNumber, Unknown, Heavy, Order}
 use Rattle.tree_checker.specs.declared.doc_fault.DocFault.{DocFault}
 use Rattle.tree_checker.specs.declared.doc_fault.DocFault.TheVariants.{Line, NoMemory as OutOfMemory}
-use Rattle.proof_tree.specs.DocLines.{DocLine, root_line, line_text}
+use Rattle.proof_tree.specs.DocLines.{line_text}
 use Rattle.proof_tree.specs.DocText.{lit_in_line, tree_line, inner_lines, blocks_lines, text_of}
-use Rattle.proof_tree.specs.Standing.{Place, at_block, at_inside, in_root, kind_of, may_stand, children, place_behind}
-use Rattle.proof_tree.specs.FirstFaults.{AreUnordered, LineFault, has_no_feed, BeginsWithLine, FaultFrom}
+use Rattle.proof_tree.specs.Standing.{Place, in_root, kind_of, may_stand, children, place_behind}
+use Rattle.proof_tree.specs.FirstFaults.{AreUnordered, LineFault, has_no_feed, FaultFrom}
 use Rattle.proof_tree.specs.declared.lines.TextEnd.{TextEnd}
 use Rattle.proof_tree.specs.declared.lines.TextEnd.TheVariants.{Whole, Unended}
 use Rattle.proof_tree.specs.declared.blocks.BlockStart.{BlockStart}

@@ -1,4 +1,4 @@
-use Rattle.std.proofs.Common.{◌≡◌, ◌+◌, suc, ap, length, ◌∷◌, [], arith}
+use Rattle.std.proofs.Common.{◌+◌, ap, length, arith}
 use Rattle.tree_checker.specs.declared.doc_fault.DocFault.TheVariants.{Line}
 use Rattle.proof_tree.specs.Bare.{bare}
 use Rattle.proof_tree.specs.DocText.{blocks_lines}

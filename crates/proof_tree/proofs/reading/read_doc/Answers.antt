@@ -1,9 +1,7 @@
-use Rattle.std.proofs.Common.{◌≡◌, ◌+◌, ◌<◌, ◌^◌, [], refl, length, subst, arith}
+use Rattle.std.proofs.Common.{◌+◌, ◌<◌, ◌^◌, [], refl, length, subst, arith}
 use Rattle.mg_word.specs.Facts.{IsProblem}
-use Rattle.tree_checker.specs.declared.doc_fault.DocFault.{DocFault}
 use Rattle.tree_checker.specs.declared.doc_fault.DocFault.TheVariants.{Line}
 use Rattle.proof_tree.specs.Bare.{bare}
-use Rattle.proof_tree.specs.FirstFaults.{IsDocFault}
 use Rattle.proof_tree.specs.Standing.{in_root}
 use Rattle.proof_tree.proofs.DocLeads.{root_places}
 use Rattle.proof_tree.proofs.WholeDocs.{header_behind, root_behind, behind_root, doc_is, no_doc, one_doc, doc_fault}
