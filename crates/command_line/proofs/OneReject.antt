@@ -8,7 +8,7 @@ use Rattle.mg_word.specs.declared.form.Form.{Form}
 use Rattle.mg_meaning.specs.Folding.{Pair}
 use Rattle.tree_checker.specs.Trees.{preorder, Branch, branches_at}
 use Rattle.tree_checker.specs.Closing.{Breaks, FirstBreak}
-use Rattle.tree_checker.specs.Docs.{lemmas_of, branch_of, lines_before, block_head_count, BlocksClose, RejectsAt, InBlock, InRoot, Rejects}
+use Rattle.tree_checker.specs.Docs.{lemmas_of, branch_of, lines_before, block_head_count, BlocksClose, RejectsAt, InBlock, Rejects}
 use Rattle.tree_checker.specs.declared.doc.Doc.{Doc}
 use Rattle.tree_checker.specs.declared.doc.LemmaBlock.{LemmaBlock}
 use Rattle.tree_checker.specs.declared.doc.TreeLine.{TreeLine}
