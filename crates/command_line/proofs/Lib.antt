@@ -10,3 +10,4 @@ pub mod Outcomes
 pub mod Replying
 pub mod SetLines
 pub mod Proving
+pub mod PrintedProofs

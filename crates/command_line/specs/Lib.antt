@@ -4,6 +4,7 @@ pub mod FormLines
 pub mod Lines
 pub mod Names
 pub mod Outcomes
+pub mod PrintLaws
 pub mod Printing
 pub mod Problems
 pub mod ProveLines

@@ -1,8 +1,9 @@
-//! That told files have one answer. The function does nothing: it is called for what it ensures.
+//! Laws of replies. The functions do nothing: they are called for what they ensure.
 
 ghost use Rattle.std.specs.Prelude.{◌≡◌, ◌≢◌, ℕ, List, Some};
 ghost use Rattle.mg_outside.specs.Reading.{Table};
 ghost use Rattle.command_line.specs.Asking.{Request, Asks};
+ghost use Rattle.command_line.specs.PrintLaws.{ProofsAreAccepted};
 ghost use Rattle.command_line.specs.Replies.{Reply, IsRightReply};
 ghost use Rattle.command_line.specs.Runs.{AreDetermined};
 
@@ -11,4 +12,9 @@ ghost use Rattle.command_line.specs.Runs.{AreDetermined};
 pub fn one_reply()
     ensures requests { (words : List (List ℕ)) (a b : Request) → Asks words a → Asks words b → a ≡ b }
     ensures replies { (words : List (List ℕ)) (files : Table) → AreDetermined words files → (a b : Reply) → IsRightReply words files a → IsRightReply words files b → a ≡ b }
+{}
+
+/// All that is printed of a proof, put into a file, is a tree that is accepted, where no line feed is in the problem's name.
+pub fn proofs_are_accepted()
+    ensures { ProofsAreAccepted }
 {}
