@@ -3,3 +3,7 @@
 
 #[cfg(test)]
 mod sets;
+#[cfg(test)]
+mod signed;
+#[cfg(test)]
+mod smaller;

@@ -1,30 +1,9 @@
 //! Which sets satisfy a problem, worked by hand.
 
+use crate::signed::{NOT_P, NOT_Q, P, Q, set_of};
 use clause_form::satisfies;
-use mg_word::{Lit, LitSet, NoMemory, Word};
 use small_problems::problem_of;
-use std::alloc::Global;
 use std::test::Fail;
-
-// The set of these literals, each a sign and a symbol without arguments.
-fn set_of(alloc: Global, signed: &[(bool, u32)]) -> Result<LitSet, NoMemory> {
-    let mut lits = Vec::new(alloc);
-    for (negative, symbol) in signed {
-        lits.push(Lit {
-            negative: *negative,
-            word: Word::new(vec![in alloc; *symbol]?),
-        })?;
-    }
-    LitSet::from_lits(lits)
-}
-
-const P: (bool, u32) = (false, 0);
-
-const Q: (bool, u32) = (false, 1);
-
-const NOT_P: (bool, u32) = (true, 0);
-
-const NOT_Q: (bool, u32) = (true, 1);
 
 // p or q holds, and q where p does.
 #[test]
