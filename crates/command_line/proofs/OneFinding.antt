@@ -1,5 +1,5 @@
 -- Where the plain tree of a problem fits the limits, one answer of a search is right.
-use Rattle.std.proofs.Common.{◌≡◌, ℕ, List, Option, Some, None, refl, sym, ap, ap₂, ◌∙◌, subst}
+use Rattle.std.proofs.Common.{◌≡◌, ℕ, List, Option, Some, sym, ap, ◌∙◌, subst}
 use Rattle.mg_word.specs.Facts.{ProblemData, IsProblem}
 use Rattle.mg_word.specs.Sets.{set_of}
 use Rattle.mg_word.specs.declared.lit.Lit.{Lit}
@@ -8,8 +8,7 @@ use Rattle.tree_board.specs.Readers.{lits_of}
 use Rattle.tree_board.specs.Searches.{Search, setting_of, board_of}
 use Rattle.tree_board.specs.declared.event.Event.{Event}
 use Rattle.tree_board.specs.declared.mode.BoardState.{BoardState}
-use Rattle.tree_board.specs.declared.mode.BoardState.TheVariants.{Blocked, Closed, Model}
-use Rattle.tree_board.specs.declared.mode.Limit.{Limit}
+use Rattle.tree_board.specs.declared.mode.BoardState.TheVariants.{Closed, Model}
 use Rattle.tree_board.specs.declared.mode.Limits.{Limits}
 use Rattle.tree_board.proofs.OneWorker.{one_worker_is_unique}
 use Rattle.command_line.specs.Searched.{EndsWith, IsFound, end_of, search_of}

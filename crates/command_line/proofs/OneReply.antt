@@ -2,7 +2,6 @@
 use Rattle.std.proofs.Common.{◌≡◌, ◌≢◌, ℕ, List, [], ◌∷◌, AllPairs, Option, Some, None, refl, sym, ap, ap₂, ◌∙◌, subst, arith}
 use Rattle.std.proofs.lemmas.List.Sorted.{IsPermutation-sym}
 use Rattle.mg_word.specs.Facts.{InputData, ProblemData, IsProblem}
-use Rattle.mg_word.specs.Table.{Symbol}
 use Rattle.mg_word.proofs.Sorting.{permuted_different}
 use Rattle.mg_outside.specs.Reading.{Table}
 use Rattle.mg_outside.specs.declared.files.ReadAnswer.TheVariants.{Failed as ReadFailed, NoMemory as ReadNoMemory}
@@ -20,17 +19,16 @@ use Rattle.clause_form.proofs.Excluding.{fault_excluded}
 use Rattle.clause_form.proofs.OneProblem.{one_problem}
 use Rattle.clause_form.proofs.Uniqueness.{one_first_fault}
 use Rattle.tree_checker.specs.Docs.{Accepts, Rejects}
-use Rattle.tree_checker.specs.declared.doc.Why.{Why}
 use Rattle.tree_checker.specs.declared.doc.Reject.TheVariants.{Line as BrokenLine}
 use Rattle.tree_checker.specs.declared.doc_fault.DocKind.{DocKind}
 use Rattle.tree_checker.specs.declared.doc_fault.DocFault.TheVariants.{Line as FaultyLine, NoMemory as NoMemoryForDoc}
 use Rattle.proof_tree.proofs.OneFirstFault.{one_first_fault as one_doc_fault}
 use Rattle.command_line.specs.Asking.{Request, Prove, Check, Forms, Asks, problem_file, tree_file}
-use Rattle.command_line.specs.Checks.{IsAccepted, IsRejected, IsUnread, IsJudged, IsChecked}
+use Rattle.command_line.specs.Checks.{IsJudged, IsChecked}
 use Rattle.command_line.specs.Problems.{IsProblemOf}
 use Rattle.command_line.specs.Proves.{Proved, IsProved}
 use Rattle.command_line.specs.Refusals.{Refusal, Unread as NotRead, Unformed, TreeAbsent, TreeFailed, MemoryOut, IsRefusal, refusal_read}
-use Rattle.command_line.specs.Replies.{Reply, Usage, Answered, Refused, Answer, IsAnswer, IsReplyTo, IsRightReply}
+use Rattle.command_line.specs.Replies.{Reply, Usage, Answered, Refused, Answer, IsAnswer, IsRightReply}
 use Rattle.command_line.specs.Runs.{AreDetermined, IsDetermined}
 use Rattle.command_line.specs.Searched.{IsFound, default_limits, search_of}
 use Rattle.command_line.specs.declared.szs_report.check.CheckAnswer.{CheckAnswer}

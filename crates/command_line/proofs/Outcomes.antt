@@ -1,16 +1,15 @@
 -- What follows of a run: that told files have one outcome, when it is a failure, and when it succeeds.
 use Rattle.std.proofs.Common.{◌≡◌, ◌≢◌, ℕ, List, Option, Some, None, refl, sym, ap, ◌∙◌, subst, inl, inr, ◌⊎◌, arith}
 use Rattle.mg_outside.specs.Causes.{Rose, one_more}
-use Rattle.mg_outside.specs.Counting.{Counts, ReadsEnd, CallEnds, SomeFailed}
+use Rattle.mg_outside.specs.Counting.{Counts, CallEnds, SomeFailed}
 use Rattle.mg_outside.specs.Putting.{SinkSeen}
 use Rattle.mg_outside.specs.Reading.{Table}
 use Rattle.mg_outside.specs.declared.files.ReadAnswer.{ReadAnswer}
 use Rattle.mg_outside.specs.declared.files.ReadAnswer.TheVariants.{Done as ReadDone, Absent as ReadAbsent, TooLong as ReadTooLong, Failed as ReadFailed, NoMemory as ReadNoMemory}
 use Rattle.mg_outside.proofs.Ends.{none_failed, failed_last}
-use Rattle.cnf_reader.specs.Reading.{kind_read, last_read}
+use Rattle.cnf_reader.specs.Reading.{kind_read}
 use Rattle.cnf_reader.specs.declared.fault.ReadKind.{ReadKind}
 use Rattle.cnf_reader.specs.declared.fault.ReadKind.TheVariants.{Files, ProblemAbsent, IncludeAbsent, TooLong}
-use Rattle.cnf_reader.specs.declared.fault.ReadFault.{ReadFault}
 use Rattle.cnf_reader.specs.declared.fault.ReadFault.TheVariants.{At, NoMemory as NoMemoryToRead}
 use Rattle.command_line.specs.Asking.{Request, Prove, Check, Forms, Asks, problem_file}
 use Rattle.command_line.specs.Checks.{check_status}
@@ -23,14 +22,13 @@ use Rattle.command_line.specs.declared.finding.Finding.TheVariants.{Unsatisfiabl
 use Rattle.mg_word.specs.Facts.{ProblemData}
 use Rattle.tree_board.specs.Alone.{FitsPlain}
 use Rattle.tree_board.specs.Searches.{Search, setting_of}
-use Rattle.command_line.specs.Printing.{Prints, IsWhole, LinesFailed, MessagesFailed}
-use Rattle.command_line.specs.Refusals.{Refusal, Unread, Unformed, TreeAbsent, TreeFailed, MemoryOut, IsRefusal, refusal_read, read_status, memory_printout}
+use Rattle.command_line.specs.Printing.{Prints, IsWhole}
+use Rattle.command_line.specs.Refusals.{Unread, Unformed, TreeAbsent, TreeFailed, MemoryOut, IsRefusal, refusal_read, read_status, memory_printout}
 use Rattle.command_line.specs.Replies.{Reply, Usage, Answered, Refused, Answer, IsAnswer, IsReplyTo, IsRightReply, HasCause, IsCounted, answer_printout, reply_read, reply_name, printout_of}
-use Rattle.command_line.specs.Runs.{AreDetermined, Fits, IsDetermined, Outside, Runs, NoneFailed, IsPrinted, IsOnly, IsFailure, IsExact, Succeeds, SomePutFailed}
+use Rattle.command_line.specs.Runs.{AreDetermined, Fits, IsDetermined, Outside, Runs, NoneFailed, IsPrinted, IsOnly, IsFailure, IsExact, SomePutFailed}
 use Rattle.command_line.specs.Statuses.{code}
 use Rattle.command_line.specs.declared.printout.Printout.{Printout}
-use Rattle.command_line.specs.declared.status.Status.{Status}
-use Rattle.command_line.specs.declared.status.Status.TheVariants.{Done, Rejected as RejectedStatus, Refused as RefusedStatus, Failed, MemoryOut as MemoryStatus}
+use Rattle.command_line.specs.declared.status.Status.TheVariants.{Failed}
 use Rattle.command_line.specs.declared.szs_report.check.CheckAnswer.{CheckAnswer}
 use Rattle.command_line.specs.declared.szs_report.check.CheckAnswer.TheVariants.{Accepted, Rejected, Unread as UnreadTree}
 use Rattle.command_line.proofs.OneReply.{one_problem_of, one_reply, one_request, refused_not, shown}

@@ -1,5 +1,5 @@
 -- What is printed of a proof is the text of its document, but for the lines that begin with `%`.
-use Rattle.std.proofs.Common.{◌≡◌, ℕ, Bool, true, false, List, [], ◌∷◌, ◌++◌, map, Option, Some, refl, sym, ap, ◌∙◌, subst, codes, append-nil, append_assoc}
+use Rattle.std.proofs.Common.{◌≡◌, ℕ, true, false, List, [], ◌∷◌, ◌++◌, map, Some, refl, sym, ap, ◌∙◌, subst, codes, append-nil, append_assoc}
 use Rattle.mg_word.specs.Facts.{ProblemData, IsProblem}
 use Rattle.mg_word.specs.Spelling.{spelled}
 use Rattle.mg_outside.specs.Reading.{Table}
@@ -21,7 +21,6 @@ use Rattle.command_line.specs.Printing.{text_of}
 use Rattle.command_line.specs.ProveLines.{end_line, proof_lines, start_line}
 use Rattle.command_line.specs.Proves.{Proved, IsProved, prove_printout}
 use Rattle.command_line.specs.Searched.{EndsWith, default_limits, search_of}
-use Rattle.command_line.specs.declared.finding.Finding.{Finding}
 use Rattle.command_line.specs.declared.finding.Finding.TheVariants.{Unsatisfiable}
 use Rattle.command_line.specs.declared.szs_report.check.CheckAnswer.TheVariants.{Accepted}
 

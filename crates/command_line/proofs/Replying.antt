@@ -2,7 +2,7 @@
 use Rattle.std.proofs.Common.{◌≡◌, ◌≢◌, ◌<◌, ℕ, List, ◌∷◌, ◌++◌, length, Option, Some, None, Result, Ok, Err, inl, inr, refl, sym, ap, ◌∙◌, subst, arith, length-append}
 use Rattle.std.specs.Prelude.{IfOk, MatchOption, MatchResult}
 use Rattle.std.specs.Option.{option_map}
-use Rattle.mg_word.specs.Facts.{InputData, ProblemData}
+use Rattle.mg_word.specs.Facts.{InputData}
 use Rattle.mg_word.specs.declared.memory.NoMemory.{NoMemory}
 use Rattle.mg_word.specs.declared.clause.Clause.{Clause}
 use Rattle.mg_outside.specs.Counting.{Counts, ReadsEnd, CallEnds}

@@ -1,16 +1,13 @@
 -- What the board shows at the end of one worker's search.
-use Rattle.std.proofs.Common.{◌≡◌, ℕ, zero, suc, ◌+◌, ◌<◌, Bool, true, false, not, cond, List, [], ◌∷◌, ◌++◌, length, get_or, slice_get, position, Option, Some, None, Result, Ok, Err, nat_le, refl, sym, ap, subst, ◌∙◌, ◌⊎◌, inl, inr, arith}
+use Rattle.std.proofs.Common.{◌≡◌, ℕ, zero, suc, ◌<◌, Bool, true, false, List, [], ◌∷◌, ◌++◌, length, get_or, slice_get, position, Option, Some, None, Result, Ok, Err, nat_le, refl, sym, ap, subst, ◌∙◌, ◌⊎◌, inl, inr, arith}
 use Rattle.std.specs.Prelude.{IfOk, IsOkAnd}
-use Rattle.std.specs.List.{position_or_len}
 use Rattle.std.specs.Option.{option_map}
-use Rattle.std.proofs.lemmas.Bool.{lt-ltb}
 use Rattle.std.proofs.lemmas.List.Quantifiers.{position-Some}
 use Rattle.mg_word.specs.Facts.{ProblemData, IsProblem}
 use Rattle.mg_word.specs.Sets.{set_of}
 use Rattle.mg_word.specs.declared.lit.Lit.{Lit}
 use Rattle.mg_word.specs.declared.memory.NoMemory.{NoMemory}
 use Rattle.mg_word.proofs.Members.{part_of_itself}
-use Rattle.mg_meaning.specs.Minimality.{IsMinimal}
 use Rattle.mg_meaning.specs.Satisfaction.{Satisfies}
 use Rattle.mg_meaning.proofs.Herbrand.{herbrand_model}
 use Rattle.mg_meaning.proofs.PartsTried.{satisfies_same}
@@ -18,7 +15,6 @@ use Rattle.tree_board.specs.Alone.{Finishes, IsAlone, IsLeft, FitsPlain}
 use Rattle.tree_board.specs.Boards.{Board, count, is_closed, opening}
 use Rattle.tree_board.specs.Effects.{effect, replay_from}
 use Rattle.tree_board.specs.Lawful.{AreLawful, IsReplay}
-use Rattle.tree_board.specs.Leaves.{IsFoundSet}
 use Rattle.tree_board.specs.NodeStates.{Found, is_found}
 use Rattle.tree_board.specs.Nodes.{Node}
 use Rattle.tree_board.specs.Readers.{lits_of}
@@ -28,15 +24,13 @@ use Rattle.tree_board.specs.Standing.{model_of, some_heavy, some_open, standing_
 use Rattle.tree_board.specs.Stuck.{GivesUp}
 use Rattle.tree_board.specs.WorkerLaws.{IsEnd, IsOneWorker}
 use Rattle.tree_board.specs.declared.event.Event.{Event}
-use Rattle.tree_board.specs.declared.mode.BoardState.{BoardState}
 use Rattle.tree_board.specs.declared.mode.BoardState.TheVariants.{Blocked, Closed, Complete, Model, Running}
 use Rattle.tree_board.specs.declared.mode.Limit.{Limit}
 use Rattle.tree_board.specs.declared.mode.Limits.{Limits}
-use Rattle.tree_board.specs.declared.mode.Mode.{Mode}
 use Rattle.tree_board.specs.declared.mode.Mode.TheVariants.{Refute}
+use Rattle.tree_board.proofs.AloneLaws.{left_gives_up, one_alone}
 use Rattle.tree_board.proofs.Cleaning.{part_of_set, part-set_of}
 use Rattle.tree_board.proofs.Counting.{stuck_exceeds}
-use Rattle.tree_board.proofs.Journals.{replay_goes_on}
 use Rattle.tree_board.proofs.Living.{found_satisfies}
 use Rattle.tree_board.proofs.Places.{same_some}
 use Rattle.tree_board.proofs.Refuting.{refute_is_never_complete}
@@ -87,31 +81,7 @@ model_node false None true false heavy node is = cc
 model_node false None false spent true node is = cc
 model_node false None false spent false node is = cc
 
-blocked_model : (closed : Bool) (model : Option ℕ) (opened spent heavy : Bool) (limit : Limit) → standing_by closed model opened spent heavy ≡ Blocked limit → model ≡ None
-blocked_model true model opened spent heavy limit is = cc
-blocked_model false (Some other) opened spent heavy limit is = cc
-blocked_model false None opened spent heavy limit is = refl
-
 -- ---- the first found node
-
--- where an element passes, the first that does has a place
-passing_place : (test : Node → Bool) (nodes : List Node) (k : ℕ) (node : Node) → slice_get nodes k ≡ Some node → test node ≡ true → position_or_len test nodes < length nodes
-passing_place test [] k node at passes = absurd (let bad : ⊥ = cc in bad)
-passing_place test (first ∷ nodes) zero node at passes =
-    let here : test first ≡ true = ap test (same_some first node at) ∙ passes in
-    let none : position_or_len test (first ∷ nodes) ≡ 0 = ap (λ t. cond (not t) (1 + position_or_len test nodes) 0) here in
-    omega (arith, none)
-passing_place test (first ∷ nodes) (suc k) node at passes = by (test first) (passing_place test nodes k node at passes)
-  where
-    by : (t : Bool) → position_or_len test nodes < length nodes → cond (not t) (1 + position_or_len test nodes) 0 < length (first ∷ nodes)
-    by true less = omega arith
-    by false less = omega (arith, less)
-
-none_passes : (test : Node → Bool) (nodes : List Node) → position test nodes ≡ None → (k : ℕ) (node : Node) → slice_get nodes k ≡ Some node → test node ≡ true → ⊥
-none_passes test nodes none k node at passes =
-    let there = lt-ltb (position_or_len test nodes) (length nodes) (passing_place test nodes k node at passes) in
-    let found : position test nodes ≡ Some (position_or_len test nodes) = ap (λ t. cond t (Some (position_or_len test nodes)) None) there in
-    cc
 
 found_at : (nodes : List Node) (number : ℕ) → (d : Node) → number < length nodes → slice_get nodes number ≡ Some (get_or nodes number d)
 found_at [] number d small = absurd (omega (arith, small))
@@ -129,48 +99,18 @@ module _ (setting : Setting) (board : Board) (refute : setting.mode ≡ Refute) 
       let (small, passes, before) = position-Some (λ (node : Node). is_found node.state) board.nodes number d least in
       (found_at board.nodes number d small, found_state (get_or board.nodes number d).state passes)
 
-  -- a blocked board has no found node
-  blocked_none_found : (limit : Limit) → state_of setting board ≡ Blocked limit → (number : ℕ) (node : Node) → slice_get board.nodes number ≡ Some node → node.state ≡ Found → ⊥
-  blocked_none_found limit is number node at found =
-      let none = sym first_found ∙ blocked_model (is_closed board 0) (model_of setting.mode board) (some_open board) (nat_le setting.limits.budget (count board)) (some_heavy board) limit is in
-      none_passes (λ (node : Node). is_found node.state) board.nodes none number node at (ap is_found found)
-
   module _ (real : IsProblem setting.problem) (replay : IsReplay setting board) where
     exceeds : IsLeft setting board → (limit : Limit) → state_of setting board ≡ Blocked limit → FitsPlain setting → ⊥
     exceeds left limit is fits = stuck_exceeds setting board real replay left.stuck limit is fits.extends fits.few fits.plain
 
+    same_limit : (one two : Limit) → state_of setting board ≡ Blocked one → state_of setting board ≡ Blocked two → one ≡ two
+    same_limit one two these those = cc
+
     gives_up : IsLeft setting board → (limit : Limit) → state_of setting board ≡ Blocked limit → GivesUp setting limit []
-    gives_up left limit is = record {
-      board = board;
-      replay = replay;
-      stuck = left.stuck;
-      blocked = is;
-      minimal = record {
-        rising = refl;
-        exact = λ set. ((λ there. absurd (omega (arith, there.1))), (λ found. absurd (blocked_none_found limit is found.0.number found.0.node found.0.is found.0.found)));
-      };
-    }
-
-    -- where the plain tree fits the limits, a search that is left has ended
-    left_ends : FitsPlain setting → IsLeft setting board → (state : BoardState) → state_of setting board ≡ state → IsEnd state
-    left_ends fits left Closed is = tt
-    left_ends fits left (Model node) is = tt
-    left_ends fits left Complete is = refute_is_never_complete setting board real replay refute is
-    left_ends fits left Running is = left.still is
-    left_ends fits left (Blocked limit) is = exceeds left limit is fits
-
--- ---- one worker
-
--- where the plain tree fits the limits, one worker sets no node aside
-pub alone_one_worker : (setting : Setting) → IsProblem setting.problem → setting.mode ≡ Refute → FitsPlain setting → (board : Board) → IsReplay setting board → (events : List Event) → IsAlone setting board events → IsOneWorker setting board events
-alone_one_worker setting real refute fits board replay [] (inl ended) = ended
-alone_one_worker setting real refute fits board replay [] (inr left) = left_ends setting board refute real replay fits left (state_of setting board) refl
-alone_one_worker setting real refute fits board replay (event ∷ events) (more, lawful, first, rest) =
-    (more, lawful, first (inr fits), alone_one_worker setting real refute fits (effect setting board event) (replay_goes_on setting board event replay lawful) events rest)
-
-no_events : (setting : Setting) → replay_from setting opening [] ≡ opening
-unfolding replay_from
-no_events setting = refl
+    gives_up left limit is = elim (left_gives_up setting real refute board replay left) [
+      | inl ended ↦ absurd (subst IsEnd is ended)
+      | inr given ↦ subst (λ one. GivesUp setting one []) (same_limit given.limit limit given.blocked is) given.gives_up
+    ]
 
 -- ---- what the search ends with
 
@@ -193,7 +133,7 @@ module _ (search : Search) (at_end : IsAtEnd search) where
       record { blocked = is; gives_up = gives_up (setting_of search) (board_of search) at_end.refute at_end.real replay left limit is; exceeds = exceeds (setting_of search) (board_of search) at_end.refute at_end.real replay left limit is }
 
   pub one_worker : FitsPlain (setting_of search) → IsOneWorker (setting_of search) opening search.journal
-  one_worker fits = alone_one_worker (setting_of search) at_end.real at_end.refute fits opening (record { events = []; lawful = tt; is = no_events (setting_of search) }) search.journal at_end.searched
+  one_worker fits = one_alone (setting_of search) at_end.real at_end.refute fits search.journal at_end.searched
 
   -- the set of the model's node
   pub satisfied : (number : ℕ) (lits : List Lit) → end_of search ≡ Model number → lits_of (board_of search).nodes number ≡ Some lits → IsSatisfied search (set_of lits)

@@ -7,7 +7,6 @@ use Rattle.mg_outside.specs.declared.files.ReadAnswer.TheVariants.{Done as ReadD
 use Rattle.cnf_reader.specs.Reading.{Reads, IsFault, last_read}
 use Rattle.cnf_reader.specs.declared.fault.ReadFault.{ReadFault}
 use Rattle.cnf_reader.specs.declared.fault.ReadFault.TheVariants.{At, NoMemory as NoMemoryToRead}
-use Rattle.cnf_reader.specs.declared.fault.ReadKind.{ReadKind}
 use Rattle.cnf_reader.specs.declared.fault.ReadKind.TheVariants.{Files}
 use Rattle.clause_form.specs.Faults.{Stands}
 use Rattle.clause_form.specs.declared.fault.FormFault.{FormFault}

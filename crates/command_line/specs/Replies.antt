@@ -14,7 +14,7 @@ use Rattle.command_line.specs.Names.{name_of}
 use Rattle.command_line.specs.Problems.{IsProblemOf}
 use Rattle.command_line.specs.Proves.{Proved, IsProved, prove_printout}
 use Rattle.command_line.specs.Searched.{default_limits}
-use Rattle.command_line.specs.Refusals.{Refusal, IsRefusal, refusal_read, refusal_printout, memory_printout}
+use Rattle.command_line.specs.Refusals.{Refusal, IsRefusal, refusal_read, refusal_printout}
 use Rattle.command_line.specs.Requests.{AsksNothing}
 use Rattle.command_line.specs.declared.status.Status.TheVariants.{Refused as RefusedStatus}
 use Rattle.command_line.specs.declared.printout.Printout.{Printout}

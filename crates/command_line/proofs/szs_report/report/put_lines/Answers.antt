@@ -1,4 +1,4 @@
-use Rattle.std.proofs.Common.{◌≡◌, ◌++◌, ℕ, List, sym, ap, ◌∙◌, subst, append_assoc, rules}
+use Rattle.std.proofs.Common.{◌≡◌, ◌++◌, sym, ap, ◌∙◌, subst, append_assoc}
 use Rattle.mg_outside.specs.Putting.{AllPut, PutFailed}
 use Rattle.command_line.proofs.Gaining.{AllPut-append, PutFailed-append, done_put}
 use Rattle.command_line.proofs.szs_report.report.put_lines.Goals as goal
