@@ -5,33 +5,38 @@ use std::alloc::Global;
 use std::process::Abort;
 use std::test::Fail;
 
+/// What the check of a proof prints.
+const ACCEPTED: &str = "% SZS status Unsatisfiable for r\n% Tree accepted\n";
+
 // What is printed of a proof with these lines, behind the header.
-fn proof_text(alloc: Global, name: &str, lines: &str) -> Result<String, Fail> {
+fn proof_text(alloc: Global, lines: &str) -> Result<String, Fail> {
     Ok(format!(in alloc;
-        "% SZS status Unsatisfiable for {name}\n% SZS output start Proof for {name}\nmgtp tree 1\n{lines}% SZS output end Proof for {name}\n"
+        "% SZS status Unsatisfiable for r\n% SZS output start Proof for r\nmgtp tree 1\n{lines}% SZS output end Proof for r\n"
     )?)
 }
 
-// Proves the problem, whose proof has these lines behind the header, and then checks all that was printed.
-fn proved(
+// Proves the problem, of which this text is to be printed, and then checks the text.
+fn proved_and_checked<'a>(
     rt: &impl Abort,
     alloc: Global,
-    file: &str,
-    problem: &str,
-    lines: &str,
+    problem: &'a str,
+    text: &'a str,
 ) -> Result<(), Fail> {
-    let name = file.strip_suffix(".p").unwrap_or(file);
-    let text = proof_text(alloc, name, lines)?;
-    let listed = [(file, problem), ("t", text.as_str())];
-    check(rt, alloc, &["prove", file], &listed, (0, text.as_str(), ""))?;
-    let accepted = format!(in alloc; "% SZS status Unsatisfiable for {name}\n% Tree accepted\n")?;
+    let listed = [("r.p", problem), ("t", text)];
+    check(rt, alloc, &["prove", "r.p"], &listed, (0, text, ""))?;
     check(
         rt,
         alloc,
-        &["check", file, "t"],
+        &["check", "r.p", "t"],
         &listed,
-        (0, accepted.as_str(), ""),
+        (0, ACCEPTED, ""),
     )
+}
+
+// Proves the problem, whose proof has these lines behind the header, and then checks all that was printed.
+fn proved(rt: &impl Abort, alloc: Global, problem: &str, lines: &str) -> Result<(), Fail> {
+    let text = proof_text(alloc, lines)?;
+    proved_and_checked(rt, alloc, problem, text.as_str())
 }
 
 #[test]
@@ -40,14 +45,12 @@ fn proofs_without_lemmas(rt: HostRuntime) -> Result<(), Fail> {
     proved(
         &rt,
         alloc,
-        "r1.p",
         "cnf(c1,axiom,p(a)).\ncnf(c2,axiom,~p(X)|q(X)).\ncnf(c3,axiom,~q(a)).\n",
         "root\nform 1 []\nform 2 [a]\nform 3 []\n",
     )?;
     proved(
         &rt,
         alloc,
-        "r13.p",
         "cnf(c1,axiom,a).\ncnf(c2,axiom,q).\ncnf(c3,axiom,~a|~q|~r,unknown,[conclude([2,3])]).\ncnf(c4,axiom,r).\n",
         "root\nform 1 []\nform 2 []\nform 4 []\nclash ~q\nform 5 []\nclash r\n",
     )
@@ -59,14 +62,12 @@ fn proofs_with_lemmas(rt: HostRuntime) -> Result<(), Fail> {
     proved(
         &rt,
         alloc,
-        "r11.p",
         "cnf(c1,axiom,a|b).\ncnf(c2,axiom,c|d).\ncnf(c3,axiom,~c).\ncnf(c4,axiom,~d).\n",
         "lemma 1\ninside []\noutside []\nform 2 []\nform 3 []\nform 4 []\nroot\nform 1 []\nby 1\nby 1\n",
     )?;
     proved(
         &rt,
         alloc,
-        "r12.p",
         "cnf(c1,axiom,x|y).\ncnf(c2,axiom,~x|a|b).\ncnf(c3,axiom,~y|a|b).\ncnf(c4,axiom,~b|a).\ncnf(c5,axiom,~a).\n",
         "lemma 1\ninside [b]\noutside [a]\nform 4 []\nbarred a\nroot\nform 1 []\nform 2 []\nform 5 []\nby 1\nform 3 []\nform 5 []\nby 1\n",
     )
@@ -99,7 +100,6 @@ fn proof_of_a_puzzle(rt: HostRuntime) -> Result<(), Fail> {
     proved(
         &rt,
         alloc,
-        "mansion.p",
         MANSION,
         "root\nform 1 []\nform 2 []\nform 3 []\nform 7 []\nform 8 []\nform 10 [agatha]\nform 10 [charles]\nform 11 [butler]\nform 12 []\nform 4 [butler,agatha]\nform 9 [charles,agatha]\nform 5 [agatha]\nform 6 [butler]\n",
     )
