@@ -160,3 +160,14 @@ first-pending held barred held' frames frame lit later nested held_is all_held a
     pending-same held barred held' barred 0 0 frames (length held) (length barred) nested
     (take_all (length held) held (omega arith) ∙ sym (ap (take (length held)) held_is ∙ take_at held (lit ∷ []) (length held) refl)) refl in
     rw (order, pending-push held' barred frames frame, goals, rest, held_is) refl
+
+-- an only child is the next branch, and needs no frame
+pub only-pending : (held barred held' : List Lit) (frames : List Frame) (lit : Lit) (later : List Lit)
+    → AreNested 0 0 frames (length held) (length barred) → held' ≡ held ++ lit ∷ [] → later ≡ [] ++ lit ∷ []
+    → split_by (record { held = held; barred = barred }) (reverse later) ++ pending held barred frames ≡ record { held = held'; barred = barred } ∷ pending held' barred frames
+only-pending held barred held' frames lit later nested held_is later_is =
+    let order : reverse later ≡ lit ∷ [] = ap reverse later_is ∙ reverse-append [] (lit ∷ []) in
+    let rest : pending held barred frames ≡ pending held' barred frames =
+    pending-same held barred held' barred 0 0 frames (length held) (length barred) nested
+    (take_all (length held) held (omega arith) ∙ sym (ap (take (length held)) held_is ∙ take_at held (lit ∷ []) (length held) refl)) refl in
+    rw (order, rest, held_is) refl

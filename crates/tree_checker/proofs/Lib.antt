@@ -1,9 +1,11 @@
 pub mod Blocks
+pub mod DifferentLits
 pub mod FirstIndices
 pub mod Frames
 pub mod Larger
 pub mod LineFacts
 pub mod Lines
+pub mod NumberTimes
 pub mod Opened
 pub mod Openings
 pub mod OwnBranches

@@ -3,9 +3,12 @@ pub mod Docs
 pub mod Faults
 pub mod Inside
 pub mod Instances
+pub mod Kept
+pub mod KeptLaws
 pub mod Laws
 pub mod Openings
 pub mod Indices
+pub mod LitTables
 pub mod Samples
 pub mod Trees
 pub mod Walks

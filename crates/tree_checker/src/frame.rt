@@ -20,8 +20,8 @@ pub struct Frame {
 
 // Makes the branch that of the frame's next child, whose literal is given.
 fn begin_next(
-    held: &mut Trail,
-    barred: &mut Trail,
+    held: &mut Trail<'_>,
+    barred: &mut Trail<'_>,
     frame: &mut Frame,
     lit: Lit,
 ) -> Result<(), NoMemory>
@@ -34,9 +34,8 @@ fn begin_next(
     ensures same_later { OnOk result (frame.new.later.items ≡ frame.old.later.items) }
 {
     held.truncate(frame.held);
-    let Some(closed) = held.pop() else {
-        unreachable!()
-    };
+    let closed = held.last().copy()?;
+    held.truncate(frame.held - 1);
     barred.truncate(frame.barred);
     barred.push(closed)?;
     held.push(lit)?;
@@ -46,8 +45,8 @@ fn begin_next(
 
 /// Goes on to the next child of the last line that has one, and says whether there was one.
 pub fn go_back(
-    held: &mut Trail,
-    barred: &mut Trail,
+    held: &mut Trail<'_>,
+    barred: &mut Trail<'_>,
     frames: &mut Vec<Frame>,
 ) -> Result<bool, NoMemory>
     requires { AreNested 0 0 frames.old.items (length held.old) (length barred.old) }
@@ -70,8 +69,8 @@ pub fn go_back(
 /// Begins the first of a line's children, whose conclusions are given, the first one last. Where there is none goes
 /// on to the next child of the last line that has one. Says whether there was one.
 pub fn begin_first(
-    held: &mut Trail,
-    barred: &mut Trail,
+    held: &mut Trail<'_>,
+    barred: &mut Trail<'_>,
     frames: &mut Vec<Frame>,
     mut later: Vec<Lit>,
 ) -> Result<bool, NoMemory>
@@ -86,6 +85,9 @@ pub fn begin_first(
         return go_back(held, barred, frames);
     };
     held.push(lit)?;
+    if later.is_empty() {
+        return Ok(true);
+    }
     frames.push(Frame {
         held: held.len(),
         barred: barred.len(),

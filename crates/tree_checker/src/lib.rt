@@ -5,8 +5,10 @@ mod check;
 mod doc;
 mod doc_fault;
 mod frame;
+mod kept_lit;
 mod laws;
 mod line;
+mod lit_table;
 mod lits;
 #[cfg(test)]
 mod tests;

@@ -49,7 +49,7 @@ fn item_numbered<T>(items: &[T], number: u32) -> Option<&T>
 }
 
 // Whether the literal and its complement are there.
-fn clashes(trail: &Trail, lit: &Lit) -> Result<bool, NoMemory>
+fn clashes(trail: &Trail<'_>, lit: &Lit) -> Result<bool, NoMemory>
     ensures { IfOk result (λ both. IsTrue both ↔ (IsTrue (holds trail.now lit.now) × IsTrue (holds trail.now (complement_of lit.now)))) }
 {
     if !trail.holds(lit) {
@@ -62,7 +62,7 @@ fn clashes(trail: &Trail, lit: &Lit) -> Result<bool, NoMemory>
 fn check_form(
     alloc: Global,
     forms: &[Form],
-    walk: &mut Walk,
+    walk: &mut Walk<'_>,
     number: u32,
     subst: &Subst,
 ) -> Result<(), LineFault>
@@ -87,7 +87,7 @@ fn check_form(
     Ok(())
 }
 
-fn check_clash(alloc: Global, walk: &mut Walk, lit: &Lit) -> Result<(), LineFault>
+fn check_clash(alloc: Global, walk: &mut Walk<'_>, lit: &Lit) -> Result<(), LineFault>
     requires { walk.old ≢ [] }
     ensures { MatchResult result
         (λ _. IsFine [] [] (next_of walk.old) (Clash lit.now) × (walk.new ≡ after_next walk.old))
@@ -100,7 +100,7 @@ fn check_clash(alloc: Global, walk: &mut Walk, lit: &Lit) -> Result<(), LineFaul
     Ok(())
 }
 
-fn check_barred(alloc: Global, walk: &mut Walk, lit: &Lit) -> Result<(), LineFault>
+fn check_barred(alloc: Global, walk: &mut Walk<'_>, lit: &Lit) -> Result<(), LineFault>
     requires { walk.old ≢ [] }
     ensures { MatchResult result
         (λ _. IsFine [] [] (next_of walk.old) (Barred lit.now) × (walk.new ≡ after_next walk.old))
@@ -119,7 +119,7 @@ fn check_barred(alloc: Global, walk: &mut Walk, lit: &Lit) -> Result<(), LineFau
 fn check_by(
     alloc: Global,
     blocks: &[LemmaBlock],
-    walk: &mut Walk,
+    walk: &mut Walk<'_>,
     number: u32,
 ) -> Result<(), LineFault>
     requires { walk.old ≢ [] }
@@ -146,7 +146,7 @@ pub fn check_line(
     alloc: Global,
     forms: &[Form],
     blocks: &[LemmaBlock],
-    walk: &mut Walk,
+    walk: &mut Walk<'_>,
     line: &TreeLine,
 ) -> Result<(), LineFault>
     requires known { IsKnown forms.now line.now }

@@ -9,7 +9,7 @@ use mg_word::{Lit, NoMemory, PatLit, Subst, instance_of_lit};
 use std::alloc::Global;
 
 /// Whether the trail has each of the literals.
-pub fn holds_all(trail: &Trail, lits: &[Lit]) -> bool
+pub fn holds_all(trail: &Trail<'_>, lits: &[Lit]) -> bool
     ensures { result ≡ is_part lits.now trail.now }
 {
     for lit in lits {
@@ -23,7 +23,7 @@ pub fn holds_all(trail: &Trail, lits: &[Lit]) -> bool
 /// Whether the trail has the instance of each of the literals. None is kept.
 pub fn holds_instances(
     alloc: Global,
-    trail: &Trail,
+    trail: &Trail<'_>,
     lits: &[PatLit],
     subst: &Subst,
 ) -> Result<bool, NoMemory>
@@ -38,7 +38,7 @@ pub fn holds_instances(
 }
 
 /// Adds copies of the literals on top.
-pub fn push_copies(trail: &mut Trail, lits: &[Lit]) -> Result<(), NoMemory>
+pub fn push_copies(trail: &mut Trail<'_>, lits: &[Lit]) -> Result<(), NoMemory>
     ensures { OnOk result (trail.new ≡ trail.old ++ lits.now) }
 {
     for lit in lits {

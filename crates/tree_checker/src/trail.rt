@@ -1,42 +1,56 @@
 //! Literals in the order of their entry, with an index for membership.
 
-ghost use Rattle.std.specs.Prelude.{◌≡◌, ◌++◌, ◌∷◌, [], OnOk, OnErr, MatchOption, length, take};
+ghost use Rattle.std.specs.Prelude.{◌≡◌, ◌≢◌, ◌-◌, ◌++◌, ◌∷◌, [], OnOk, OnErr, length, take, slice_index_or};
 ghost use Rattle.mg_word.specs.Sets.{holds};
 
+use crate::lit_table::LitTable;
 use mg_word::{Lit, NoMemory};
 use std::alloc::Global;
-use std::collections::BTreeMap;
 use std::marker::Model;
 
-/// A stack of literals. A literal may stand in it several times.
+/// A stack of literals. A literal may stand in it several times, and is kept once.
 #[derive(Drop)]
-pub struct Trail {
-    lits: Vec<Lit>,
-    /// For each literal the index where it first stands.
-    first: BTreeMap<Lit, usize>,
+pub struct Trail<'a> {
+    /// The literals that stand in it or did.
+    table: LitTable<'a>,
+    /// For each literal of the table how many times it stands in the stack. The last ones may be missing.
+    counts: Vec<usize>,
+    /// The numbers of the stack's literals.
+    numbers: Vec<usize>,
 }
 
-impl Model for Trail {
+impl<'a> Model for Trail<'a> {
     ghost use Rattle.std.specs.Prelude.{List};
     ghost use Rattle.mg_word.specs.declared.lit.Lit.{Lit};
 
     ghost Value = { List Lit };
 
-    ghost use Rattle.tree_checker.specs.Indices.{IsTrail};
+    ghost use Rattle.tree_checker.specs.LitTables.{trail_seen, IsTrail};
 
-    ghost view = { λ trail. trail.lits.items };
+    ghost view = { trail_seen };
 
     ghost invariant = { IsTrail };
 }
 
-impl Trail {
+// The count at the number, and none where it is missing.
+fn count_of(counts: &[usize], number: usize) -> usize
+    ensures { result ≡ slice_index_or counts.now number 0 }
+{
+    match counts.get(number) {
+        Some(count) => *count,
+        None => 0,
+    }
+}
+
+impl<'a> Trail<'a> {
     /// The empty stack. It takes no memory.
-    pub fn new(alloc: Global) -> Trail
+    pub fn new(alloc: Global) -> Trail<'a>
         ensures { result ≡ [] }
     {
         Trail {
-            lits: Vec::new(alloc),
-            first: BTreeMap::new(alloc),
+            table: LitTable::new(alloc),
+            counts: Vec::new(alloc),
+            numbers: Vec::new(alloc),
         }
     }
 
@@ -44,14 +58,25 @@ impl Trail {
     pub fn len(&self) -> usize
         ensures { result ≡ length self.now }
     {
-        self.lits.len()
+        self.numbers.len()
     }
 
     /// Whether the literal is there.
     pub fn holds(&self, lit: &Lit) -> bool
         ensures { result ≡ holds self.now lit.now }
     {
-        self.first.contains_key(lit)
+        match self.table.find(lit) {
+            Some(number) => count_of(&self.counts, number) > 0,
+            None => false,
+        }
+    }
+
+    /// The literal on top.
+    pub fn last(&self) -> &Lit
+        requires { self.now ≢ [] }
+        ensures { self.now ≡ take (length self.now - 1) self.now ++ result.now ∷ [] }
+    {
+        self.table.lit(self.numbers[self.numbers.len() - 1])
     }
 
     /// Adds a literal on top. After an error the stack is as before.
@@ -59,41 +84,28 @@ impl Trail {
         ensures ok { OnOk result (self.new ≡ self.old ++ lit ∷ []) }
         ensures err { OnErr result (self.new ≡ self.old) }
     {
-        if self.first.contains_key(&lit) {
-            self.lits.push(lit)?;
-            return Ok(());
-        }
-        let key = lit.copy()?;
-        let index = self.lits.len();
-        self.lits.push(lit)?;
-        match self.first.insert(key, index) {
-            Ok(_) => Ok(()),
-            Err(_) => {
-                let _ = self.lits.pop();
-                Err(NoMemory)
-            }
-        }
+        let number = self.table.number(lit)?;
+        self.counts.resize(self.table.len(), 0)?;
+        self.numbers.push(number)?;
+        self.counts[number] += 1;
+        Ok(())
     }
 
-    /// Takes the literal on top.
-    pub fn pop(&mut self) -> Option<Lit>
-        ensures { MatchOption result ((self.old ≡ []) × (self.new ≡ [])) (λ lit. self.old ≡ self.new ++ lit ∷ []) }
+    // Takes the literal on top, where there is one.
+    fn drop_last(&mut self)
+        ensures { self.new ≡ take (length self.old - 1) self.old }
     {
-        let Some(lit) = self.lits.pop() else {
-            return None;
-        };
-        if self.first.get(&lit).copied() == Some(self.lits.len()) {
-            let _ = self.first.remove(&lit);
+        if let Some(number) = self.numbers.pop() {
+            self.counts[number] -= 1;
         }
-        Some(lit)
     }
 
     /// Takes literals from the top until so many are left.
     pub fn truncate(&mut self, len: usize)
         ensures { self.new ≡ take len self.old }
     {
-        while self.lits.len() > len {
-            let _ = self.pop();
+        while self.numbers.len() > len {
+            self.drop_last();
         }
     }
 }

@@ -13,14 +13,14 @@ use std::marker::Model;
 
 /// The branches that are still to be closed, the next one first.
 #[derive(Drop)]
-pub struct Walk {
-    held: Trail,
-    barred: Trail,
+pub struct Walk<'a> {
+    held: Trail<'a>,
+    barred: Trail<'a>,
     frames: Vec<Frame>,
     is_done: bool,
 }
 
-impl Model for Walk {
+impl<'a> Model for Walk<'a> {
     ghost use Rattle.std.specs.Prelude.{List};
     ghost use Rattle.tree_checker.specs.Trees.{Branch};
 
@@ -33,9 +33,9 @@ impl Model for Walk {
     ghost invariant = { IsWalk };
 }
 
-impl Walk {
+impl<'a> Walk<'a> {
     /// One branch, which holds and bars these.
-    pub fn at(alloc: Global, held: &[Lit], barred: &[Lit]) -> Result<Walk, NoMemory>
+    pub fn at(alloc: Global, held: &[Lit], barred: &[Lit]) -> Result<Walk<'a>, NoMemory>
         ensures { IfOk result (λ walk. walk ≡ record { held = held.now; barred = barred.now } ∷ []) }
     {
         let mut all_held = Trail::new(alloc);
@@ -51,7 +51,7 @@ impl Walk {
     }
 
     /// What the next branch holds.
-    pub fn held(&self) -> &Trail
+    pub fn held(&self) -> &Trail<'a>
         requires { self.now ≢ [] }
         ensures { result.now ≡ (next_of self.now).held }
     {
@@ -59,7 +59,7 @@ impl Walk {
     }
 
     /// What the next branch bars.
-    pub fn barred(&self) -> &Trail
+    pub fn barred(&self) -> &Trail<'a>
         requires { self.now ≢ [] }
         ensures { result.now ≡ (next_of self.now).barred }
     {

@@ -1,7 +1,16 @@
-use Rattle.std.proofs.Common.{ap, ◌∙◌}
-use Rattle.std.specs.Option.{is_some}
-use Rattle.tree_checker.proofs.FirstIndices.{index_held}
+use Rattle.std.proofs.Common.{◌≡◌, get_or, length, ltb, sym, ap, ◌∙◌}
+use Rattle.tree_checker.specs.LitTables.{times}
+use Rattle.tree_checker.proofs.NumberTimes.{counted_below, held_times, not_held}
 use Rattle.tree_checker.proofs.trail.Trail.holds.Goals as goal
 
-pub returns : goal.returns
-returns c = rw (← c.self.view_is) (c.contains_key.ensures ∙ ap is_some (c.self.invariant c.args.lit.now) ∙ index_held c.self.inside.lits.items c.args.lit.now)
+pub returns-in-Some : goal.returns-in-Some
+returns-in-Some c =
+    let below = counted_below c.self.inside.counts.items c.self.inside.numbers.items (length c.self.inside.table) c.self.invariant.1 c.self.invariant.0 in
+    let count : c.count_of.result ≡ times c.in-Some.number c.self.inside.numbers.items =
+    c.count_of.ensures ∙ ap (λ counts. get_or counts c.in-Some.number 0) c.deref.ensures.value ∙ c.self.invariant.1 c.in-Some.number in
+    rw (← c.self.view_is) (ap (ltb 0) count ∙ sym (held_times c.self.inside.table c.args.lit.now c.in-Some.number c.self.inside.numbers.items c.in-Some.ensures.different (sym c.in-Some.ensures.number) below))
+
+pub returns-in-None : goal.returns-in-None
+returns-in-None c =
+    let below = counted_below c.self.inside.counts.items c.self.inside.numbers.items (length c.self.inside.table) c.self.invariant.1 c.self.invariant.0 in
+    rw (← c.self.view_is) (sym (not_held c.self.inside.table c.args.lit.now c.self.inside.numbers.items (sym c.in-None.ensures.number) below))
