@@ -36,9 +36,12 @@ fn line_of(forms: usize, number: u32, terms: TermList) -> Result<TreeLine, LineF
     if terms.has_heavy {
         return Err(LineFault::Wrong(DocKind::Heavy));
     }
+    // A document has as many lists as lines, so that none is to have more room than its terms take.
+    let mut words = terms.words.into_vec();
+    words.shrink_to_fit();
     Ok(TreeLine::Form {
         form: number,
-        subst: Subst::new(terms.words.into_vec()),
+        subst: Subst::new(words),
     })
 }
 
