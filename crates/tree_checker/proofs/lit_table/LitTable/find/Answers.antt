@@ -1,5 +1,5 @@
-use Rattle.std.proofs.Common.{sym, ap, ◌∙◌}
-use Rattle.tree_checker.specs.Indices.{index_of, AreDifferent}
+use Rattle.std.proofs.Common.{ap, ◌∙◌}
+use Rattle.tree_checker.specs.Indices.{index_of}
 use Rattle.tree_checker.specs.declared.kept_lit.KeptLit.TheVariants.{Lent}
 use Rattle.tree_checker.proofs.DifferentLits.{found_index}
 use Rattle.tree_checker.proofs.lit_table.LitTable.find.Goals as goal

@@ -1,4 +1,4 @@
-use Rattle.std.proofs.Common.{sym, ap, ◌∙◌}
+use Rattle.std.proofs.Common.{ap, ◌∙◌}
 use Rattle.tree_checker.specs.Indices.{with_new}
 use Rattle.tree_checker.specs.declared.kept_lit.KeptLit.TheVariants.{Own}
 use Rattle.tree_checker.proofs.DifferentLits.{different, inserted, own_index}

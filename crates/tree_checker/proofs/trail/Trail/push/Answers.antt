@@ -1,9 +1,8 @@
-use Rattle.std.proofs.Common.{◌≡◌, ◌<◌, ◌≤◌, ◌+◌, ◌-◌, ◌++◌, ◌∷◌, [], ℕ, get_or, length, map, take, sym, ap, ◌∙◌, arith, replicate, Ok, Err, OnErr}
+use Rattle.std.proofs.Common.{◌≡◌, ◌<◌, ◌≤◌, ◌+◌, ◌-◌, ◌++◌, ◌∷◌, [], length, map, take, ap, ◌∙◌, arith, replicate, Ok, Err, OnErr}
 use Rattle.std.specs.declared.result.Result.{Result}
 use Rattle.std.proofs.lemmas.List.{length-set, map-append}
 use Rattle.std.proofs.lemmas.Grind.{get_or_default_zero}
-use Rattle.tree_checker.specs.Indices.{lit_at, with_new}
-use Rattle.tree_checker.specs.LitTables.{times}
+use Rattle.tree_checker.specs.Indices.{lit_at}
 use Rattle.tree_checker.proofs.FirstIndices.{index_at}
 use Rattle.tree_checker.proofs.NumberTimes.{no_lit, counted_below, lits_same, long_as, filled, counted_pushed, times_most}
 use Rattle.tree_checker.proofs.trail.Trail.push.Goals as goal
