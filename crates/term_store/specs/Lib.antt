@@ -1,0 +1,6 @@
+pub mod Differing
+pub mod Laws
+pub mod Reading
+pub mod Terms
+pub mod Values
+pub mod Seen
