@@ -50,7 +50,7 @@ nothing_more : (a : Bool) → a ≡ (a || false)
 nothing_more true = refl
 nothing_more false = refl
 
-holds-with_lits : (set lits : List Lit) (lit : Lit) → holds (with_lits set lits) lit ≡ (holds set lit || holds lits lit)
+pub holds-with_lits : (set lits : List Lit) (lit : Lit) → holds (with_lits set lits) lit ≡ (holds set lit || holds lits lit)
 holds-with_lits set [] lit = nothing_more (holds set lit)
 holds-with_lits set (one ∷ lits) lit =
     holds-with_lits (with_lit set one) lits lit ∙ (ap (λ b. b || holds lits lit) (holds-with_lit set one lit) ∙ turn (same_lit one lit) (holds set lit) (holds lits lit))
@@ -76,7 +76,7 @@ barring_child nodes first above held bars (lit ∷ more) (child, children) numbe
 ]
 
 -- a node that is not the root, and its parent
-record IsBelowParent (nodes : List Node) (number parent : ℕ) (here : Node) : Type 0 where
+pub record IsBelowParent (nodes : List Node) (number parent : ℕ) (here : Node) : Type 0 where
   pub node : Node
   pub is : slice_get nodes parent ≡ Some node
   pub below : parent < number
@@ -87,7 +87,7 @@ record IsBelowParent (nodes : List Node) (number parent : ℕ) (here : Node) : T
   pub small : number - first < length inst.conclusions
   pub barred : here.barred ≡ barred_before node.barred inst.conclusions (number - first)
 
-parent_bars : (setting : Setting) (board : Board) → IsBoard setting board → (number : ℕ) (here : Node) → slice_get board.nodes number ≡ Some here → number ≢ 0 → IsBelowParent board.nodes number (parent_of here.path) here
+pub parent_bars : (setting : Setting) (board : Board) → IsBoard setting board → (number : ℕ) (here : Node) → slice_get board.nodes number ≡ Some here → number ≢ 0 → IsBelowParent board.nodes number (parent_of here.path) here
 parent_bars setting board facts number here at apart = let own = facts.each number here at in by own.above own.path (subst (IsPath board.nodes) own.path own.rooted)
   where
     by : (above : List ℕ) → here.path ≡ number ∷ above → IsPath board.nodes (number ∷ above) → IsBelowParent board.nodes number (parent_of here.path) here
@@ -108,7 +108,7 @@ parent_bars setting board facts number here at apart = let own = facts.each numb
           barred = ap (λ (node : Node). node.barred) (same_some here own.node (sym at ∙ own.is)) ∙ own.barred;
         })
 
-root_bars : (setting : Setting) (board : Board) → IsBoard setting board → (number : ℕ) (here : Node) → slice_get board.nodes number ≡ Some here → number ≡ 0 → here.barred ≡ []
+pub root_bars : (setting : Setting) (board : Board) → IsBoard setting board → (number : ℕ) (here : Node) → slice_get board.nodes number ≡ Some here → number ≡ 0 → here.barred ≡ []
 root_bars setting board facts number here at zero_is =
     let (root, root_at, root_path, lits, barred) = facts.root in
     ap (λ (node : Node). node.barred) (same_some here root (sym at ∙ (ap (slice_get board.nodes) zero_is ∙ root_at))) ∙ barred

@@ -55,3 +55,6 @@ pub mod Walks
 pub mod Claiming
 pub mod LeafSets
 pub mod TreeSteps
+pub mod FirstIndices
+pub mod CaseReasons
+pub mod AlongPaths

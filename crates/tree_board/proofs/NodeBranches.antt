@@ -1,5 +1,5 @@
 -- The literals of a live node are those of a branch.
-use Rattle.std.proofs.Common.{◌≡◌, ◌≢◌, ℕ, zero, suc, ◌+◌, ◌<◌, ◌≤◌, true, true≢false, not, List, [], ◌∷◌, length, get_or, slice_get, All, AllPairs, Some, sym, ap, subst, ◌∙◌, inl, inr, arith}
+use Rattle.std.proofs.Common.{◌≡◌, ◌≢◌, ℕ, zero, suc, ◌+◌, ◌<◌, ◌≤◌, true, false, true≢false, not, List, [], ◌∷◌, length, get_or, slice_get, All, AllPairs, Some, sym, ap, subst, ◌∙◌, inl, inr, arith}
 use Rattle.std.proofs.lemmas.Bool.{cases_eq}
 use Rattle.std.proofs.lemmas.List.{length-append}
 use Rattle.mg_word.specs.Facts.{IsProblem}
@@ -74,11 +74,11 @@ pairs_different (lit ∷ lits) e (suc i) (suc j) d less small same = pairs_diffe
 all_within : (limit most : ℕ) (lits : List Lit) → limit ≤ most → All (λ lit. length lit.word ≤ limit) lits → All (λ lit. length lit.word ≤ most) lits
 all_within limit most lits small light = λ k d inside. let one = light k d inside in omega (arith, small, one)
 
-pub open_branch : (setting : Setting) (board : Board) → IsProblem setting.problem → IsReplay setting board → setting.limits.budget ≤ MOST_BUDGET → setting.limits.weight ≤ MOST_WEIGHT → (number : ℕ) (node : Node) → slice_get board.nodes number ≡ Some node → node.state ≡ Open → AreBranch setting.problem node.lits
-open_branch setting board real replay budget weight number node at opened =
+pub live_branch : (setting : Setting) (board : Board) → IsProblem setting.problem → IsReplay setting board → setting.limits.budget ≤ MOST_BUDGET → setting.limits.weight ≤ MOST_WEIGHT → (number : ℕ) (node : Node) → slice_get board.nodes number ≡ Some node → is_shut node.state ≡ false → AreBranch setting.problem node.lits
+live_branch setting board real replay budget weight number node at unshut =
     let facts = replay_board setting board real replay in
     let own = facts.each number node at in
-    let clean = own.clean (ap is_shut opened) in
+    let clean = own.clean unshut in
     record {
       different = pairs_different node.lits clean.different;
       clash_free = clean.consistent;
@@ -90,3 +90,6 @@ open_branch setting board real replay budget weight number node at opened =
           let nodes = few_nodes setting board real replay budget in
           omega (arith, few, small, nodes);
     }
+
+pub open_branch : (setting : Setting) (board : Board) → IsProblem setting.problem → IsReplay setting board → setting.limits.budget ≤ MOST_BUDGET → setting.limits.weight ≤ MOST_WEIGHT → (number : ℕ) (node : Node) → slice_get board.nodes number ≡ Some node → node.state ≡ Open → AreBranch setting.problem node.lits
+open_branch setting board real replay budget weight number node at opened = live_branch setting board real replay budget weight number node at (ap is_shut opened)

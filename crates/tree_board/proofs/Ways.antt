@@ -76,11 +76,11 @@ case_of nodes first above held bars (lit ∷ more) (child, children) number from
 ]
 
 -- what the parent's state gives a node
-abbrev literal_by : List Node → ℕ → ℕ → Option Lit
+abbrev pub literal_by : List Node → ℕ → ℕ → Option Lit
 literal_by nodes number parent = option_and_then (λ first. option_and_then (λ (inst : Inst). case_in inst first number) (shown instance_of nodes parent)) (shown first_child_of nodes parent)
 
 -- a node that its parent's event made
-record ComesFrom (nodes : List Node) (number parent : ℕ) (here : Node) : Type 0 where
+pub record ComesFrom (nodes : List Node) (number parent : ℕ) (here : Node) : Type 0 where
   pub node : Node
   pub is : slice_get nodes parent ≡ Some node
   pub below : parent < number
@@ -89,7 +89,7 @@ record ComesFrom (nodes : List Node) (number parent : ℕ) (here : Node) : Type 
   pub gives : literal_by nodes number parent ≡ Some lit
 
 -- the root, or one that comes from its parent
-origin : (setting : Setting) (board : Board) → IsBoard setting board → (number : ℕ) (here : Node) → slice_get board.nodes number ≡ Some here
+pub origin : (setting : Setting) (board : Board) → IsBoard setting board → (number : ℕ) (here : Node) → slice_get board.nodes number ≡ Some here
     → ((number ≡ 0) × (here.lits ≡ [])) ⊎ ComesFrom board.nodes number (parent_of here.path) here
 origin setting board facts number here at = let own = facts.each number here at in by own.above own.path (subst (IsPath board.nodes) own.path own.rooted)
   where
@@ -117,7 +117,7 @@ origin setting board facts number here at = let own = facts.each number here at 
         }))
 
 module _ (search : Search) (cells : List Cell) (closures : List Closure) (lemmas : List Pair) (lemma_nodes : List ℕ) (extends : ℕ) (keeping : IsKeeping search cells closures lemmas lemma_nodes extends) where
-  literal_is : (number : ℕ) (here : Node) → slice_get (board_of search).nodes number ≡ Some here
+  pub literal_is : (number : ℕ) (here : Node) → slice_get (board_of search).nodes number ≡ Some here
       → option_and_then (λ (cell : Cell). literal_from cells search.journal number cell.parent) (slice_get cells number) ≡ literal_by (board_of search).nodes number (parent_of here.path)
   literal_is number here at =
       let (cell, is, stands) = cell_at search.journal closures (board_of search).kept 0 cells (board_of search).nodes keeping.stand.nodes number here at in
@@ -127,7 +127,7 @@ module _ (search : Search) (cells : List Cell) (closures : List Closure) (lemmas
       (instance_kept search cells closures lemmas lemma_nodes extends keeping cell.parent)
       ∙ ap (literal_by (board_of search).nodes number) stands.parent)
 
-  parent_is : (number : ℕ) (here : Node) → slice_get (board_of search).nodes number ≡ Some here → option_map (λ (cell : Cell). cell.parent) (slice_get cells number) ≡ Some (parent_of here.path)
+  pub parent_is : (number : ℕ) (here : Node) → slice_get (board_of search).nodes number ≡ Some here → option_map (λ (cell : Cell). cell.parent) (slice_get cells number) ≡ Some (parent_of here.path)
   parent_is number here at =
       let (cell, is, stands) = cell_at search.journal closures (board_of search).kept 0 cells (board_of search).nodes keeping.stand.nodes number here at in
       ap (option_map (λ (cell : Cell). cell.parent)) is ∙ ap Some stands.parent

@@ -1,5 +1,5 @@
 -- An event's move, of the cells.
-use Rattle.std.specs.Prelude.{◌≡◌, ℕ, suc, true, false, List, [], ◌∷◌, ◌++◌, is_some, slice_get, slice_set, Option, Some, None}
+use Rattle.std.specs.Prelude.{◌≡◌, ℕ, suc, true, false, List, [], ◌∷◌, ◌++◌, is_some, map, slice_get, slice_set, Option, Some, None}
 use Rattle.mg_word.specs.Words.{numbered}
 use Rattle.mg_word.specs.declared.lit.Lit.{Lit}
 use Rattle.mg_meaning.specs.Folding.{Pair, rejecting}
@@ -51,18 +51,29 @@ abbrev pub place_after : ℕ → Option Closure → ℕ
 place_after place None = place
 place_after place (Some closure) = suc place
 
-abbrev pub cells_of_cases : ℕ → ℕ → List Child → List Cell
-cells_of_cases parent place [] = []
-cells_of_cases parent place (one ∷ more) = born_cell parent place one.at_once ∷ cells_of_cases parent (place_after place one.at_once) more
+-- the cells of children, by why they are closed at once if they are
+abbrev pub cells_by : ℕ → ℕ → List (Option Closure) → List Cell
+cells_by parent place [] = []
+cells_by parent place (one ∷ more) = born_cell parent place one ∷ cells_by parent (place_after place one) more
 
 abbrev pub with_closure : Option Closure → List Closure → List Closure
 with_closure None closures = closures
 with_closure (Some closure) closures = closure ∷ closures
 
--- why the cases are closed that are closed at once
+-- those that there are
+abbrev pub closures_by : List (Option Closure) → List Closure
+closures_by [] = []
+closures_by (one ∷ more) = with_closure one (closures_by more)
+
+-- why the cases are closed at once, of each that is
+abbrev pub reasons_of : List Child → List (Option Closure)
+reasons_of cases = map (λ one. one.at_once) cases
+
+abbrev pub cells_of_cases : ℕ → ℕ → List Child → List Cell
+cells_of_cases parent place cases = cells_by parent place (reasons_of cases)
+
 abbrev pub closures_of : List Child → List Closure
-closures_of [] = []
-closures_of (one ∷ more) = with_closure one.at_once (closures_of more)
+closures_of cases = closures_by (reasons_of cases)
 
 -- the cases that the event makes of a node with these literals and this barred set
 abbrev pub cases_made : List Lit → List Lit → Event → List Child
@@ -80,3 +91,7 @@ AreCases board event cases = (node : Node) → slice_get board.nodes (node_of ev
 -- the cells with that one settled and those of its children added
 abbrev pub grown : List Cell → ℕ → Settled → Option Pair → Cell → List Cell → List Cell
 grown cells number settled lemma cell children = slice_set (cells ++ children) number (settled_cell settled lemma cell)
+
+-- why the cases that the event makes at its node are closed at once, of each that is
+abbrev pub AreReasons : Board → Event → List (Option Closure) → Type 0
+AreReasons board event reasons = (node : Node) → slice_get board.nodes (node_of event) ≡ Some node → reasons ≡ reasons_of (cases_made node.lits node.barred event)

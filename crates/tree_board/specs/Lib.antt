@@ -38,3 +38,5 @@ pub mod Working
 pub mod Claims
 pub mod FoundSets
 pub mod NextOpen
+pub mod BarredIndices
+pub mod Paths

@@ -8,8 +8,8 @@ use crate::{Board, Event};
 use mg_word::{Lit, LitSet, NoMemory};
 use std::alloc::Global;
 
-// The conclusions of the parent's instance before that of the node with this number.
-fn earlier_at<'a>(cells: &[Cell], journal: &'a [Event], parent: u32, node: u32) -> &'a [Lit]
+/// The conclusions of the parent's instance before that of the node with this number.
+pub fn earlier_at<'a>(cells: &[Cell], journal: &'a [Event], parent: u32, node: u32) -> &'a [Lit]
     ensures { result.now ≡ earlier_in cells.now journal.now parent node }
 {
     let (Some(inst), Some(first)) = (

@@ -1,12 +1,12 @@
 //! An event's move, of the cells.
 
 ghost use Rattle.std.specs.Prelude.{◌≡◌, ◌∷◌, ◌++◌, ◌+◌, ◌<◌, ◌^◌, [], IfOk, OnOk, Some, length, slice_get, slice_set};
-ghost use Rattle.tree_board.specs.CellMoves.{settled_as, settled_cell, born_cell, cells_of_cases, with_closure, closures_of};
+ghost use Rattle.tree_board.specs.CellMoves.{settled_as, settled_cell, born_cell, cells_by, with_closure, closures_by};
 
 use crate::Event;
 use crate::cell::{Cell, Settled};
 use branch_lemmas::{Lemma, closure_lemma};
-use case_split::{Child, Closure};
+use case_split::Closure;
 use mg_word::NoMemory;
 use std::alloc::Global;
 use std::mem;
@@ -91,25 +91,30 @@ fn push_reason(closures: &mut Vec<Closure>, at_once: Option<Closure>) -> Result<
     Ok(())
 }
 
-/// The cells of cases, and the reasons of those that are closed at once.
+/// The cells of children, and the reasons of those that are closed at once.
 #[derive(Debug, Drop)]
 pub struct Children {
     pub cells: Vec<Cell>,
     pub closures: Vec<Closure>,
 }
 
-/// The cells of these cases, whose reasons go to places from there on.
-pub fn born(alloc: Global, parent: u32, first: u32, cases: Vec<Child>) -> Result<Children, NoMemory>
-    requires { first + length cases.items < 2 ^ 32 }
-    ensures cells { IfOk result (λ children. children.cells.items ≡ cells_of_cases parent first cases.items) }
-    ensures closures { IfOk result (λ children. children.closures.items ≡ closures_of cases.items) }
+/// The cells of children that are closed at once for these reasons, which go to places from there on.
+pub fn born(
+    alloc: Global,
+    parent: u32,
+    first: u32,
+    reasons: Vec<Option<Closure>>,
+) -> Result<Children, NoMemory>
+    requires { first + length reasons.items < 2 ^ 32 }
+    ensures cells { IfOk result (λ children. children.cells.items ≡ cells_by parent first reasons.items) }
+    ensures closures { IfOk result (λ children. children.closures.items ≡ closures_by reasons.items) }
 {
-    let mut cells = Vec::with_capacity(alloc, cases.len())?;
+    let mut cells = Vec::with_capacity(alloc, reasons.len())?;
     let mut closures = Vec::new(alloc);
-    'cases: for case in cases {
+    'reasons: for reason in reasons {
         let place = first + closures.len() as u32;
-        cells.push(born_cell(alloc, parent, place, &case.at_once)?)?;
-        push_reason(&mut closures, case.at_once)?;
+        cells.push(born_cell(alloc, parent, place, &reason)?)?;
+        push_reason(&mut closures, reason)?;
     }
     Ok(Children { cells, closures })
 }

@@ -1,7 +1,7 @@
 //! Boards with one event more.
 
 ghost use Rattle.std.specs.Prelude.{◌≡◌, ◌∷◌, ◌++◌, [], IfOk, OnErr, OnOk, map};
-ghost use Rattle.tree_board.specs.CellMoves.{AreCases, lemma_made};
+ghost use Rattle.tree_board.specs.CellMoves.{AreCases, AreReasons, lemma_made, reasons_of};
 ghost use Rattle.tree_board.specs.Lawful.{IsLawful};
 ghost use Rattle.tree_board.specs.Searches.{setting_of, board_of};
 
@@ -10,9 +10,20 @@ use crate::cell_growth::{Change, grow};
 use crate::cell_moves::{born, settled_as};
 use crate::{Board, Event};
 use branch_lemmas::{Lemma, leaf_lemma};
-use case_split::{Child, children};
+use case_split::{Child, Closure, children};
 use mg_word::NoMemory;
 use std::alloc::Global;
+
+// Why the cases are closed at once, of each that is.
+fn reasons_of(alloc: Global, cases: Vec<Child>) -> Result<Vec<Option<Closure>>, NoMemory>
+    ensures { IfOk result (λ reasons. reasons.items ≡ reasons_of cases.items) }
+{
+    let mut reasons = Vec::with_capacity(alloc, cases.len())?;
+    'cases: for case in cases {
+        reasons.push(case.at_once)?;
+    }
+    Ok(reasons)
+}
 
 impl Board {
     // The cases that the event makes, which may come next.
@@ -45,17 +56,22 @@ impl Board {
         }
     }
 
-    /// Adds this event, which may come next: its node is settled, its children are born, and all closings follow. After want
-    /// of memory the board is as before.
-    pub(crate) fn append(&mut self, alloc: Global, event: Event) -> Result<(), NoMemory>
-        requires { IsLawful (setting_of self.old) (board_of self.old) event }
+    /// Adds this event, which may come next, and whose cases are closed at once for these reasons: its node is settled, its
+    /// children are born, and all closings follow. After want of memory the board is as before.
+    fn append_by(
+        &mut self,
+        alloc: Global,
+        event: Event,
+        reasons: Vec<Option<Closure>>,
+    ) -> Result<(), NoMemory>
+        requires lawful { IsLawful (setting_of self.old) (board_of self.old) event }
+        requires reasons { AreReasons (board_of self.old) event reasons.items }
         ensures ok { OnOk result (self.new ≡ record self.old { journal = self.old.journal ++ event ∷ [] }) }
         ensures err { OnErr result (self.new ≡ self.old) }
     {
         let node = event.node();
-        let cases = self.cases(alloc, &event)?;
         let lemma = self.lemma_made(alloc, &event)?;
-        let children = born(alloc, node, self.closures.len() as u32, cases)?;
+        let children = born(alloc, node, self.closures.len() as u32, reasons)?;
         let settled = settled_as(&event, self.journal.len() as u32, self.cells.len() as u32);
         let added = event.extensions();
         self.journal.push(event)?;
@@ -82,13 +98,31 @@ impl Board {
         Ok(())
     }
 
-    /// The board with this event, which may come next. After want of memory the board is dropped.
-    pub(crate) fn with(self, alloc: Global, event: Event) -> Result<Board, NoMemory>
-        requires { IsLawful (setting_of self) (board_of self) event }
+    /// Adds this event, which may come next, wherever it is. After want of memory the board is as before.
+    pub(crate) fn append(&mut self, alloc: Global, event: Event) -> Result<(), NoMemory>
+        requires { IsLawful (setting_of self.old) (board_of self.old) event }
+        ensures ok { OnOk result (self.new ≡ record self.old { journal = self.old.journal ++ event ∷ [] }) }
+        ensures err { OnErr result (self.new ≡ self.old) }
+    {
+        let cases = self.cases(alloc, &event)?;
+        let reasons = reasons_of(alloc, cases)?;
+        self.append_by(alloc, event, reasons)
+    }
+
+    /// The board with this event, which may come next, and whose cases are closed at once for these reasons. After want of
+    /// memory the board is dropped.
+    pub(crate) fn with(
+        self,
+        alloc: Global,
+        event: Event,
+        reasons: Vec<Option<Closure>>,
+    ) -> Result<Board, NoMemory>
+        requires lawful { IsLawful (setting_of self) (board_of self) event }
+        requires reasons { AreReasons (board_of self) event reasons.items }
         ensures { IfOk result (λ board. board ≡ record self { journal = self.journal ++ event ∷ [] }) }
     {
         let mut board = self;
-        board.append(alloc, event)?;
+        board.append_by(alloc, event, reasons)?;
         Ok(board)
     }
 }

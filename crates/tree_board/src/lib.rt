@@ -2,6 +2,7 @@
 #![tactic(auto)]
 
 mod alone;
+mod barred;
 mod barring;
 mod board;
 mod cell;
@@ -16,6 +17,7 @@ mod leaves;
 mod mode;
 mod next_open;
 mod node;
+mod path;
 mod quick;
 mod standing;
 

@@ -1,46 +1,5 @@
-use Rattle.std.proofs.Common.{◌≡◌, ◌+◌, ◌++◌, ap, ap₂, arith, length, refl, sym, ◌∙◌}
-use Rattle.tree_board.specs.CellMoves.{cells_of_cases, settled_as}
-use Rattle.tree_board.proofs.EventSeen.{seen_cases, seen_cells, seen_events, seen_extends, seen_grown, seen_kept, seen_within}
-use Rattle.tree_board.proofs.Restores.{on_ok}
+use Rattle.tree_board.proofs.CaseReasons.{reasons_by}
 use Rattle.tree_board.proofs.board.Board.append.Goals as goal
 
-pub overflow_cast-len : goal.overflow_cast-len
-overflow_cast-len c =
-    let few = seen_cases _ _ c.self.view_is _ _ _ _ _ c.self.invariant _ c.requires _ c.in_ok-cases.ensures in
-    omega (arith, few, c.len.ensures, c.self.inside.closures.ok.0)
-
-pub born-requires : goal.born-requires
-born-requires c =
-    let few = seen_cases _ _ c.self.view_is _ _ _ _ _ c.self.invariant _ c.requires _ c.in_ok-cases.ensures in
-    omega (arith, few, c.len.ensures, c.self.inside.closures.ok.0)
-
-pub overflow_cast-len-2 : goal.overflow_cast-len-2
-overflow_cast-len-2 c = let few = seen_events _ _ c.self.view_is _ _ _ _ _ c.self.invariant _ c.requires in omega (arith, few, c.len-2.ensures, c.self.inside.journal.ok.0)
-
-pub overflow_cast-len-3 : goal.overflow_cast-len-3
-overflow_cast-len-3 c = let few = seen_cells _ _ c.self.view_is _ _ _ _ _ c.self.invariant _ c.requires in omega (arith, few, c.len-3.ensures, c.self.inside.cells.ok.0)
-
-pub grow-outcome-requires-clause-there : goal.grow-outcome-requires-clause-there
-grow-outcome-requires-clause-there c = seen_within _ _ c.self.view_is _ _ _ _ _ c.self.invariant _ c.requires _ c.node-node.ensures
-
-pub grow-outcome-requires-clause-some : goal.grow-outcome-requires-clause-some
-grow-outcome-requires-clause-some c =
-    let settled : c.settled_as-settled.result ≡ settled_as (length c.self.inside.journal.items) (length c.self.inside.cells.items) c.args.event =
-    c.settled_as-settled.ensures ∙ ap₂ (λ events nodes. settled_as events nodes c.args.event) (c.len-2.ensures ∙ c.self.inside.journal.ok.0) (c.len-3.ensures ∙ c.self.inside.cells.ok.0) in
-    let children : c.in_ok-children.children.cells.items ≡ cells_of_cases c.node-node.result (length c.self.inside.closures.items) c.in_ok-cases.cases.items =
-    c.in_ok-children.ensures.cells ∙ ap (λ first. cells_of_cases c.node-node.result first c.in_ok-cases.cases.items) (c.len.ensures ∙ c.self.inside.closures.ok.0) in
-    seen_grown _ _ c.self.view_is _ _ _ _ _ c.self.invariant _ c.requires _ c.node-node.ensures _ c.in_ok-cases.ensures _ settled _ c.in_ok-lemma.ensures _ children _ refl _ _ c.in_ok-push.ensures.items c.as_slice.ensures.value
-
-pub overflow_add-self : goal.overflow_add-self
-overflow_add-self c = let few = seen_extends _ _ c.self.view_is _ _ _ _ _ c.self.invariant _ c.requires in omega (arith, few, c.extensions-added.ensures)
-
-pub invariant_of-self-2 : goal.invariant_of-self-2
-invariant_of-self-2 c =
-    let settled : c.settled_as-settled.result ≡ settled_as (length c.self.inside.journal.items) (length c.self.inside.cells.items) c.args.event =
-    c.settled_as-settled.ensures ∙ ap₂ (λ events nodes. settled_as events nodes c.args.event) (c.len-2.ensures ∙ c.self.inside.journal.ok.0) (c.len-3.ensures ∙ c.self.inside.cells.ok.0) in
-    let children : c.in_ok-children.children.cells.items ≡ cells_of_cases c.node-node.result (length c.self.inside.closures.items) c.in_ok-cases.cases.items =
-    c.in_ok-children.ensures.cells ∙ ap (λ first. cells_of_cases c.node-node.result first c.in_ok-cases.cases.items) (c.len.ensures ∙ c.self.inside.closures.ok.0) in
-    let went = sym c.is_err.ensures.value ∙ c.if-is_err.false in
-    let reasons = on_ok _ _ went c.grow-outcome.ensures.closures ∙ ap (λ more. c.self.inside.closures.items ++ more) c.in_ok-children.ensures.closures in
-    seen_kept _ _ c.self.view_is _ _ _ _ _ c.self.invariant _ c.requires _ c.node-node.ensures _ c.in_ok-cases.ensures _ settled _ c.in_ok-lemma.ensures _ children _ reasons _ _ c.in_ok-push.ensures.items c.as_slice.ensures.value
-    _ _ _ (on_ok _ _ went c.grow-outcome.ensures.ok) _ (ap (λ n. c.self.inside.count + n) c.extensions-added.ensures)
+pub append_by-requires-clause-reasons : goal.append_by-requires-clause-reasons
+append_by-requires-clause-reasons c = reasons_by c.args.self.now c.args.event _ c.in_ok-cases.ensures _ c.in_ok-reasons.ensures
