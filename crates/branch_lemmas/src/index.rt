@@ -1,6 +1,6 @@
 //! The lemmas that are kept, numbered from 1.
 
-ghost use Rattle.std.specs.Prelude.{◌≡◌, ◌<◌, [], ◌∷◌, ◌++◌, IfOk, IfSome, IsOkAnd, OnOk, OnErr, length};
+ghost use Rattle.std.specs.Prelude.{◌≡◌, ◌<◌, ◌≤◌, ◌+◌, [], ◌∷◌, ◌++◌, IfOk, IfSome, IsOkAnd, OnOk, OnErr, length};
 ghost use Rattle.std.specs.List.{position};
 ghost use Rattle.std.specs.Option.{option_copied};
 ghost use Rattle.mg_word.specs.Words.{numbered};
@@ -70,6 +70,17 @@ impl LemmaIndex {
     {
         self.lemmas.push(lemma)?;
         Ok(self.lemmas.len() as u32)
+    }
+
+    /// Adds these lemmas last, in order. After want of memory the index is as before.
+    pub fn add_all(&mut self, lemmas: Vec<Lemma>) -> Result<(), NoMemory>
+        requires { length self.old + length lemmas.items ≤ MOST_LEMMAS }
+        ensures ok { OnOk result (self.new ≡ self.old ++ lemmas.items) }
+        ensures err { OnErr result (self.new ≡ self.old) }
+    {
+        let mut lemmas = lemmas;
+        self.lemmas.append(&mut lemmas)?;
+        Ok(())
     }
 
     /// The lemma with this number, if there is one.

@@ -101,3 +101,17 @@ fn least_number_that_applies(rt: HostRuntime) -> Result<(), Fail> {
     assert!(rt; index.get(0).is_none() && index.get(3).is_some() && index.get(4).is_none());
     Ok(())
 }
+
+#[test]
+fn several_at_once(rt: HostRuntime) -> Result<(), Fail> {
+    let alloc = rt.alloc();
+    let first = closure_lemma(alloc, &Closure::Clash(atom(alloc, A)?))?;
+    let second = closure_lemma(alloc, &Closure::Barred(atom(alloc, B)?))?;
+    let lemmas = vec![in alloc; first, second]?;
+    let mut index = LemmaIndex::new(alloc)?;
+    assert_eq!(rt; index.len(), 0);
+    assert_eq!(rt; lemmas.len(), 2);
+    index.add_all(lemmas)?;
+    assert_eq!(rt; index.len(), 2);
+    Ok(())
+}

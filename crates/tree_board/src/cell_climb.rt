@@ -231,53 +231,20 @@ fn restore(cells: &mut Vec<Cell>, before: Vec<Before>)
     }
 }
 
-// The same lemmas.
-fn copied_index(alloc: Global, lemmas: &LemmaIndex) -> Result<LemmaIndex, NoMemory>
-    requires { length lemmas.now ≤ MOST_LEMMAS }
-    ensures { IfOk result (λ copy. copy ≡ lemmas.now) }
-{
-    let mut copy = LemmaIndex::new(alloc)?;
-    'lemmas: for number in 0..lemmas.len() {
-        if let Some(lemma) = lemmas.get(number + 1) {
-            let _ = copy.add(copied(lemma)?)?;
-        }
-    }
-    Ok(copy)
-}
-
-// These lemmas, and then those.
-fn joined(alloc: Global, lemmas: &LemmaIndex, more: Vec<Lemma>) -> Result<LemmaIndex, NoMemory>
-    requires { length lemmas.now + length more.items ≤ MOST_LEMMAS }
-    ensures { IfOk result (λ all. all ≡ lemmas.now ++ more.items) }
-{
-    let mut all = copied_index(alloc, lemmas)?;
-    'more: for lemma in more {
-        let _ = all.add(lemma)?;
-    }
-    Ok(all)
-}
-
 // Adds these lemmas. After want of memory there are none of them.
-fn add_all(alloc: Global, lemmas: &mut LemmaIndex, more: Vec<Lemma>) -> Result<(), NoMemory>
+fn add_all(lemmas: &mut LemmaIndex, more: Vec<Lemma>) -> Result<(), NoMemory>
     requires { AreFew (length lemmas.old) more.items }
     ensures ok { OnOk result (lemmas.new ≡ lemmas.old ++ more.items) }
     ensures err { OnErr result (lemmas.new ≡ lemmas.old) }
 {
-    let mut more = more;
-    if more.len() > 1 {
-        let all = joined(alloc, lemmas, more)?;
-        *lemmas = all;
+    if more.is_empty() {
         return Ok(());
     }
-    if let Some(lemma) = more.pop() {
-        let _ = lemmas.add(lemma)?;
-    }
-    Ok(())
+    lemmas.add_all(more)
 }
 
 // Keeps these lemmas, of these nodes. After want of memory all is as before.
 fn install(
-    alloc: Global,
     lemmas: &mut LemmaIndex,
     lemma_nodes: &mut Vec<u32>,
     more: Vec<Lemma>,
@@ -291,7 +258,7 @@ fn install(
 {
     let mut nodes = nodes;
     lemma_nodes.reserve(nodes.len())?;
-    add_all(alloc, lemmas, more)?;
+    add_all(lemmas, more)?;
     let _ = lemma_nodes.append(&mut nodes);
     Ok(())
 }
@@ -323,7 +290,7 @@ pub fn climb(
         lemmas: more,
         nodes,
     } = trail;
-    if outcome.is_err() || install(alloc, lemmas, lemma_nodes, more, nodes).is_err() {
+    if outcome.is_err() || install(lemmas, lemma_nodes, more, nodes).is_err() {
         restore(cells, before);
         return Err(NoMemory);
     }
