@@ -1,0 +1,84 @@
+-- What the words after the program's name ask for.
+use Rattle.std.specs.Prelude.{◌≡◌, ◌≢◌, ◌≤◌, ℕ, List, [], ◌∷◌, Option, Some, MatchOption, codes}
+use Rattle.ascii_text.specs.Numbers.{IsValue}
+use Rattle.command_words.specs.Given.{Word, Values, Give, value_of}
+
+-- what a search is asked for: the problem's file, the folder of includes, and the numbers
+pub record Search : Type 0 where
+  pub file : Word
+  pub root : Option Word
+  pub workers : ℕ
+  pub budget : ℕ
+  pub weight : ℕ
+
+-- a command, with what it is given
+pub data Request : Type 0 where
+  Prove : (search : Search) → Request
+  Models : (search : Search) → Request
+  Check : (file tree : Word) (root : Option Word) → Request
+  Forms : (file : Word) (root : Option Word) → Request
+  Sample : (size workers budget : ℕ) → Request
+
+-- an option whose value is a number: its name, the least and the greatest number, and the number that stands where the option is not given
+pub record Row : Type 0 where
+  pub name : Word
+  pub least : ℕ
+  pub most : ℕ
+  pub default : ℕ
+
+abbrev pub workers : Row
+workers = record { name = codes "workers"; least = 1; most = 64; default = 1 }
+
+abbrev pub budget : Row
+budget = record { name = codes "budget"; least = 0; most = 1000000; default = 100000 }
+
+abbrev pub weight : Row
+weight = record { name = codes "weight"; least = 1; most = 4096; default = 256 }
+
+-- the option whose value is the folder of includes
+abbrev pub root : Word
+root = codes "root"
+
+-- the text is the decimal spelling of the number, which is from the least to the greatest
+abbrev pub IsNumberIn : (least most : ℕ) → Word → ℕ → Type 0
+IsNumberIn least most text number = IsValue text number × (least ≤ number) × (number ≤ most)
+
+-- the option has this number
+abbrev pub HasNumber : Row → Values → ℕ → Type 0
+HasNumber row values number = MatchOption (value_of row.name values) (number ≡ row.default) (λ text. IsNumberIn row.least row.most text number)
+
+-- the option has this folder, or there is none where it is not given
+abbrev pub HasRoot : Values → Option Word → Type 0
+HasRoot values folder = (value_of root values ≡ folder) × (folder ≢ Some [])
+
+-- the place has this name of a file
+abbrev pub HasFile : Word → Values → Word → Type 0
+HasFile place values name = (value_of place values ≡ Some name) × (name ≢ [])
+
+-- the place has this number, which is from the least to the greatest
+abbrev pub HasSize : Word → Values → ℕ → Type 0
+HasSize place values size = MatchOption (value_of place values) ⊥ (λ text. IsNumberIn 1 20 text size)
+
+-- the words are the command and words that give such values to its options and places
+abbrev pub AreWords : Word → (options places words : List Word) → (Values → Type 0) → Type 0
+AreWords command options places words IsAsked =
+    (arguments : List Word) × (values : Values) × (words ≡ command ∷ arguments) × Give options places arguments values × IsAsked values
+
+-- the values are those of a search
+abbrev pub IsSearch : Search → Values → Type 0
+IsSearch search values = HasFile (codes "FILE") values search.file × HasRoot values search.root
+    × HasNumber workers values search.workers × HasNumber budget values search.budget × HasNumber weight values search.weight
+
+abbrev pub search_options : List Word
+search_options = workers.name ∷ budget.name ∷ weight.name ∷ root ∷ []
+
+-- the words ask for it
+abbrev pub Asks : List Word → Request → Type 0
+Asks words (Prove search) = AreWords (codes "prove") search_options (codes "FILE" ∷ []) words (IsSearch search)
+Asks words (Models search) = AreWords (codes "models") search_options (codes "FILE" ∷ []) words (IsSearch search)
+Asks words (Check file tree folder) = AreWords (codes "check") (root ∷ []) (codes "FILE" ∷ codes "TREE" ∷ []) words
+    (λ values. HasFile (codes "FILE") values file × HasFile (codes "TREE") values tree × HasRoot values folder)
+Asks words (Forms file folder) = AreWords (codes "forms") (root ∷ []) (codes "FILE" ∷ []) words
+    (λ values. HasFile (codes "FILE") values file × HasRoot values folder)
+Asks words (Sample size workers_asked budget_asked) = AreWords (codes "sample") (workers.name ∷ budget.name ∷ []) (codes "K" ∷ []) words
+    (λ values. HasSize (codes "K") values size × HasNumber workers values workers_asked × HasNumber budget values budget_asked)
