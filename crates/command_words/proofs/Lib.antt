@@ -1,0 +1,5 @@
+pub mod Rules
+pub mod Reading
+pub mod Settling
+pub mod Flags
+pub mod Walking
