@@ -13,19 +13,10 @@ use Rattle.clap.specs.Walk.{Rule, arg_by_id, arg_by_index, arg_by_long, arg_by_s
 use Rattle.clap.specs.Simple.{App, built, filled, filled_from, is_simple, new_rule, new_shape, with_index}
 use Rattle.clap.specs.Faults.{is_simple_and_free}
 use Rattle.command_words.specs.Given.{Word}
-
-abbrev pub option_rule : Word → Rule
-option_rule name = record (new_rule name) { long = Some name }
-
-abbrev pub place_rule : Word → Rule
-place_rule name = record (new_rule name) { required = true }
+use Rattle.command_words.specs.Clap.{app, option_rule, place_rule}
 
 abbrev pub rules : List Word → List Word → List Rule
 rules options places = map option_rule options ++ map place_rule places
-
--- the command
-abbrev pub app : Word → List Word → List Word → App
-app name options places = record { top = record (new_shape name) { disable_help_flag = true; rules = rules options places }; subs = [] }
 
 -- the rules of the command when it is built
 abbrev pub built_option : Word → Rule
@@ -47,12 +38,9 @@ places_filled i (place ∷ places) small =
     let next : min (i + 1) usize_max ≡ i + 1 = omega arith in
     ap (λ rest. built_place i place ∷ rest) (ap (λ k. filled_from k (map place_rule places)) next ∙ places_filled (i + 1) places (omega arith))
 
-all_filled : (options places : List Word) → length places < 10 → filled_from 1 (rules options places) ≡ built_rules options places
+pub all_filled : (options places : List Word) → length places < 10 → filled_from 1 (rules options places) ≡ built_rules options places
 all_filled [] places small = places_filled 1 places (omega arith)
 all_filled (option ∷ options) places small = ap (λ rest. built_option option ∷ rest) (all_filled options places small)
-
-pub built_is : (name : Word) (options places : List Word) → length places < 10 → (built (app name options places)).top.rules ≡ built_rules options places
-built_is name options places small = all_filled options places small
 
 -- the option has this name
 abbrev pub is_option : List Word → Word → Bool

@@ -19,7 +19,7 @@ pub data Argument : Type 0 where
 -- the words of an argument
 abbrev pub written : Argument → List Word
 written (Pair name value) = (codes "--" ++ name) ∷ value ∷ []
-written (Joined name value) = (codes "--" ++ (name ++ codes "=" ++ value)) ∷ []
+written (Joined name value) = (codes "--" ++ (name ++ (codes "=" ++ value))) ∷ []
 written (Placed place value) = value ∷ []
 
 -- what an argument gives: the value, behind its name

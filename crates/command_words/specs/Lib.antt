@@ -1,3 +1,4 @@
 pub mod Asking
+pub mod Clap
 pub mod Given
 pub mod Requests

@@ -1,0 +1,89 @@
+//! The values that words give to the options and the places of a command, read by clap.
+
+ghost use Rattle.std.specs.Prelude.{◌≡◌, ℕ, List, true, codes, drop, fold, map, option_map, string_bytes, IfOk, MatchOption};
+ghost use Rattle.clap.specs.Words.{app_of, with_rule};
+ghost use Rattle.command_words.specs.Given.{Give, Values, value_of};
+ghost use Rattle.command_words.specs.Clap.{Hold, app, are_names, option_rule, place_rule};
+
+use clap::error::ErrorKind;
+use clap::{Arg, ArgMatches, Command};
+use mg_word::NoMemory;
+use std::alloc::{AllocError, Global};
+
+/// The values of options and places.
+#[derive(Drop)]
+pub(crate) struct Arguments<'a> {
+    matches: ArgMatches<'a>,
+}
+
+impl<'a> Arguments<'a> {
+    /// The value of an option or a place, if it is given.
+    pub(crate) fn value(&self, name: &str) -> Option<&'a str>
+        ensures { (values : Values) → Hold self.now values → option_map (λ value. value.now) result ≡ value_of name.now values }
+    {
+        self.matches.get_str(name)
+    }
+}
+
+// The command with these options.
+fn with_options<'a>(
+    alloc: Global,
+    mut command: Command<'a>,
+    options: &'a [&'a str],
+) -> Result<Command<'a>, AllocError>
+    ensures { IfOk result (λ made. app_of made ≡ fold with_rule (app_of command.entry) (map (λ name. option_rule name.now) options.now)) }
+{
+    for name in options {
+        command = command.arg(Arg::new(alloc, name).long(name))?;
+    }
+    Ok(command)
+}
+
+// The command with these places.
+fn with_places<'a>(
+    alloc: Global,
+    mut command: Command<'a>,
+    places: &'a [&'a str],
+) -> Result<Command<'a>, AllocError>
+    ensures { IfOk result (λ made. app_of made ≡ fold with_rule (app_of command.entry) (map (λ name. place_rule name.now) places.now)) }
+{
+    for name in places {
+        command = command.arg(Arg::new(alloc, name).required(true))?;
+    }
+    Ok(command)
+}
+
+// The command with these options and places, as clap takes it.
+fn command_with<'a>(
+    alloc: Global,
+    options: &'a [&'a str],
+    places: &'a [&'a str],
+) -> Result<Command<'a>, AllocError>
+    ensures { IfOk result (λ made. app_of made ≡ app (codes "mgtp") (map (λ name. name.now) options.now) (map (λ name. name.now) places.now)) }
+{
+    let bare = Command::new(alloc, "mgtp").disable_help_flag(true);
+    with_places(alloc, with_options(alloc, bare, options)?, places)
+}
+
+/// The values that the words behind the first give to these options and places, and `None` where they give none.
+pub(crate) fn read_arguments<'a>(
+    alloc: Global,
+    options: &'a [&'a str],
+    places: &'a [&'a str],
+    words: &'a [String],
+) -> Result<Option<Arguments<'a>>, NoMemory>
+    requires { are_names (map (λ name. name.now) options.now) (map (λ name. name.now) places.now) ≡ true }
+    ensures { IfOk result (λ found. MatchOption found
+        ((values : Values) → Give (map (λ name. name.now) options.entry.now) (map (λ name. name.now) places.entry.now) (drop 1 (map string_bytes words.entry.now)) values → ⊥)
+        (λ given. (values : Values) × Give (map (λ name. name.now) options.entry.now) (map (λ name. name.now) places.entry.now) (drop 1 (map string_bytes words.entry.now)) values × Hold given values)) }
+{
+    match command_with(alloc, options, places)?.try_get_matches_from(words) {
+        Ok(matches) => Ok(Some(Arguments { matches })),
+        Err(error) => {
+            if error.kind() == ErrorKind::OutOfMemory {
+                return Err(NoMemory);
+            }
+            Ok(None)
+        }
+    }
+}
