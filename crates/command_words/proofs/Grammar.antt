@@ -296,12 +296,13 @@ module _ (options : List Word) where
         record { value = word; behind = words; more_values = parts.0; words_are = refl; no_dash = free_word word is.0 is.1 is.2; values_are = parts.2; part = idles places parts.0 left parts.1 }
 
   reads_back : (words : List Word) → IdleReads words × WaitingReads words
-  reads_back [] =
-      (λ places values left read.
-      let e : ◌≡◌ {A = Read} (Some ([], places)) (Some (values, left)) = read in
-      let pair : ◌≡◌ {A = Values × List Word} ([], places) (values, left) = cc in
-      record { arguments = []; rest = None; spelled = refl; proper = tt; gives = sym (ap (λ p. p.0) pair); in_places = sym (ap (λ p. p.1) pair) },
-      λ places name values left read. let n : ◌≡◌ {A = Read} None (Some (values, left)) = read in absurd (cc))
+  reads_back [] = (
+    λ places values left read.
+        let e : ◌≡◌ {A = Read} (Some ([], places)) (Some (values, left)) = read in
+        let pair : ◌≡◌ {A = Values × List Word} ([], places) (values, left) = cc in
+        record { arguments = []; rest = None; spelled = refl; proper = tt; gives = sym (ap (λ p. p.0) pair); in_places = sym (ap (λ p. p.1) pair) },
+    λ places name values left read. let n : ◌≡◌ {A = Read} None (Some (values, left)) = read in absurd (cc),
+  )
   reads_back (word ∷ words) =
       let rest = reads_back words in
       (idle_part word words rest.0 rest.1 (kind options word) (kind_is options word), waiting_part word words rest.0 rest.1 (kind options word) (kind_is options word))

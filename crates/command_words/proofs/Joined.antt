@@ -66,9 +66,10 @@ fresh_apart before (value ∷ values) fresh name among =
 
 fresh_once : (before values : Values) → Fresh before values → AreOnce values
 fresh_once before [] fresh = tt
-fresh_once before (value ∷ values) fresh =
-    (none_given value.0 values (fresh_apart (before ++ value ∷ []) values fresh.1 value.0 (names_more before value value.0 ∙ or_right (is_option (names before) value.0) _ (or_left _ false (same value.0)))),
-    fresh_once (before ++ value ∷ []) values fresh.1)
+fresh_once before (value ∷ values) fresh = (
+  none_given value.0 values (fresh_apart (before ++ value ∷ []) values fresh.1 value.0 (names_more before value value.0 ∙ or_right (is_option (names before) value.0) _ (or_left _ false (same value.0)))),
+  fresh_once (before ++ value ∷ []) values fresh.1,
+)
 
 once_fresh : (before values : Values) → AreOnce values → ((name : Word) → is_option (names before) name ≡ true → is_option (names values) name ≡ false) → Fresh before values
 once_fresh before [] once apart = tt
@@ -169,13 +170,13 @@ finished_rows all (option ∷ options) places = ap (λ r. fold with_default r (b
 
 -- ---- the faults of a command
 
-abbrev base : Word → Shape
+abbrev pub base : Word → Shape
 base name = (built (app name [] [])).top
 
-abbrev ready : Word → List Word → List Word → App
+abbrev pub ready : Word → List Word → List Word → App
 ready name options places = record { top = top (base name) options places; subs = [] }
 
-built_ready : (name : Word) (options places : List Word) → length places < 10 → built (app name options places) ≡ ready name options places
+pub built_ready : (name : Word) (options places : List Word) → length places < 10 → built (app name options places) ≡ ready name options places
 built_ready name options places few =
     ap (λ all. record { top = record (base name) { rules = all; args_override_self = false; is_leaf = true }; subs = [] }) (all_filled options places few)
 
@@ -245,12 +246,12 @@ apart_from taken (head ∷ places) are (first ∷ used) left place is =
     let parts = or_parts (bytes_eq head place) (is_option taken place) rest.0 in
     (parts.1, or_from (bytes_eq first place) _ (ap (λ n. bytes_eq n place) head_is ∙ parts.0) rest.1)
 
-record AreNamed (options places : List Word) : Type 0 where
+pub record AreNamed (options places : List Word) : Type 0 where
   pub few : length places < 10
   pub option_are : (name : Word) → is_option options name ≡ true → IsOptionName name
   pub apart : AreApart options places
 
-named : (options places : List Word) → are_names options places ≡ true → AreNamed options places
+pub named : (options places : List Word) → are_names options places ≡ true → AreNamed options places
 named options places are =
     let first = and_parts (nat_lt (length places) 10) _ are in
     let second = and_parts (list_all is_option_name options) _ first.1 in
@@ -347,3 +348,21 @@ module _ (name : Word) (options places words : List Word) (bin : Word) (utf8 : A
       let ended = ap (λ h. h.rows) passed.1 in
       fault_is name options places words bin all_named.few
       ∙ ap₂ (λ a b. or_else a (missing b)) passed.0 (ap (wants name options places words bin) ended ∙ (wanted options places values ∙ none_missing values part))
+
+-- words give values in one way
+pub one_give : (options places words : List Word) → are_names options places ≡ true → (a b : Values) → Give options places words a → Give options places words b → a ≡ b
+one_give options places words are a b first second =
+    let option_are = (named options places are).option_are in
+    let both : ◌≡◌ {A = Read} (Some (a, [])) (Some (b, [])) = sym (read_part options option_are words places [] a (part_of first)) ∙ read_part options option_are words places [] b (part_of second) in
+    let pair : ◌≡◌ {A = Values × List Word} (a, []) (b, []) = cc in
+    ap (λ p. p.0) pair
+  where
+    part_of : {values : Values} → Give options places words values → Part options words places values []
+    part_of give = record {
+      arguments = give.arguments;
+      rest = give.rest;
+      spelled = give.spelled;
+      proper = give.proper;
+      gives = give.gives;
+      in_places = append-nil _ ∙ give.in_places;
+    }

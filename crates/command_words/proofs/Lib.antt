@@ -5,3 +5,7 @@ pub mod Flags
 pub mod Walking
 pub mod Grammar
 pub mod Joined
+pub mod Commands
+pub mod Asked
+pub mod Words
+pub mod OneRequest

@@ -133,6 +133,7 @@ module _ (c : List Rule) where
       where
         now : Held
         now = held (before ++ (name, value) ∷ []) None
+
         new_value : (r : Read) → Outcome (before ++ (name, value) ∷ []) r (rest (held (before ++ (name, value) ∷ []) None)) (end (held (before ++ (name, value) ∷ []) None))
             → Outcome before (more (name, value) r) (rest (held (before ++ (name, value) ∷ []) None)) (end (held (before ++ (name, value) ∷ []) None))
         new_value None fails = fails

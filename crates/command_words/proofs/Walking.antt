@@ -348,10 +348,11 @@ module _ (base : Shape) (options places : List Word) where
           (idles before (Some (name, word)) used left all (option_known name among))
 
     pub stands : (words : List Word) → AllByRecursion IsUtf8 words → StandsIdle words × StandsWaiting words
-    stands [] utf8 =
-        (λ before pending used left all known.
-        outcome_as before (with_pending pending (Some ([], left))) _ _ _ _ (no_word (at (held before pending) idle (behind used) false)) refl (ends before pending left known),
-        λ before name used left all among none. some_fault _ _ (sym (no_word (at (opened name (held before None)) (option name) (behind used) false) ∙ unfed name before among) ∙ none))
+    stands [] utf8 = (
+      λ before pending used left all known.
+          outcome_as before (with_pending pending (Some ([], left))) _ _ _ _ (no_word (at (held before pending) idle (behind used) false)) refl (ends before pending left known),
+      λ before name used left all among none. some_fault _ _ (sym (no_word (at (opened name (held before None)) (option name) (behind used) false) ∙ unfed name before among) ∙ none),
+    )
     stands (word ∷ words) utf8 =
         let rest = stands words utf8.1 in
         (idle_word word words utf8.0 rest.0 rest.1 (kind options word) (kind_is options word), waiting_word word words utf8.0 rest.0 rest.1 (kind options word) (kind_is options word))

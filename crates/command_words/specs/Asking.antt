@@ -43,7 +43,7 @@ root = codes "root"
 abbrev pub IsNumberIn : (least most : ℕ) → Word → ℕ → Type 0
 IsNumberIn least most text number = IsValue text number × (least ≤ number) × (number ≤ most)
 
--- the option has this number
+-- the option has this number, which is the default where the option is not given
 abbrev pub HasNumber : Row → Values → ℕ → Type 0
 HasNumber row values number = MatchOption (value_of row.name values) (number ≡ row.default) (λ text. IsNumberIn row.least row.most text number)
 
@@ -69,16 +69,41 @@ abbrev pub IsSearch : Search → Values → Type 0
 IsSearch search values = HasFile (codes "FILE") values search.file × HasRoot values search.root
     × HasNumber workers values search.workers × HasNumber budget values search.budget × HasNumber weight values search.weight
 
+-- the values are those of the check of a tree
+abbrev pub IsCheck : (file tree : Word) → Option Word → Values → Type 0
+IsCheck file tree folder values = HasFile (codes "FILE") values file × HasFile (codes "TREE") values tree × HasRoot values folder
+
+-- the values are those of the forms of a problem
+abbrev pub IsForms : Word → Option Word → Values → Type 0
+IsForms file folder values = HasFile (codes "FILE") values file × HasRoot values folder
+
+-- the values are those of a problem that is made
+abbrev pub IsSample : ℕ → ℕ → ℕ → Values → Type 0
+IsSample size workers_asked budget_asked values = HasSize (codes "K") values size × HasNumber workers values workers_asked × HasNumber budget values budget_asked
+
+-- the options and the places of each command
 abbrev pub search_options : List Word
 search_options = workers.name ∷ budget.name ∷ weight.name ∷ root ∷ []
 
+abbrev pub sample_options : List Word
+sample_options = workers.name ∷ budget.name ∷ []
+
+abbrev pub root_option : List Word
+root_option = root ∷ []
+
+abbrev pub file_place : List Word
+file_place = codes "FILE" ∷ []
+
+abbrev pub tree_places : List Word
+tree_places = codes "FILE" ∷ codes "TREE" ∷ []
+
+abbrev pub size_place : List Word
+size_place = codes "K" ∷ []
+
 -- the words ask for it
 abbrev pub Asks : List Word → Request → Type 0
-Asks words (Prove search) = AreWords (codes "prove") search_options (codes "FILE" ∷ []) words (IsSearch search)
-Asks words (Models search) = AreWords (codes "models") search_options (codes "FILE" ∷ []) words (IsSearch search)
-Asks words (Check file tree folder) = AreWords (codes "check") (root ∷ []) (codes "FILE" ∷ codes "TREE" ∷ []) words
-    (λ values. HasFile (codes "FILE") values file × HasFile (codes "TREE") values tree × HasRoot values folder)
-Asks words (Forms file folder) = AreWords (codes "forms") (root ∷ []) (codes "FILE" ∷ []) words
-    (λ values. HasFile (codes "FILE") values file × HasRoot values folder)
-Asks words (Sample size workers_asked budget_asked) = AreWords (codes "sample") (workers.name ∷ budget.name ∷ []) (codes "K" ∷ []) words
-    (λ values. HasSize (codes "K") values size × HasNumber workers values workers_asked × HasNumber budget values budget_asked)
+Asks words (Prove search) = AreWords (codes "prove") search_options file_place words (IsSearch search)
+Asks words (Models search) = AreWords (codes "models") search_options file_place words (IsSearch search)
+Asks words (Check file tree folder) = AreWords (codes "check") root_option tree_places words (IsCheck file tree folder)
+Asks words (Forms file folder) = AreWords (codes "forms") root_option file_place words (IsForms file folder)
+Asks words (Sample size workers_asked budget_asked) = AreWords (codes "sample") sample_options size_place words (IsSample size workers_asked budget_asked)
