@@ -1,5 +1,5 @@
 -- What values stand for.
-use Rattle.std.proofs.Common.{◌≡◌, ◌≢◌, ◌≤◌, ◌<◌, ℕ, List, [], Option, Some, None, MatchOption, refl, sym, ap, ◌∙◌, subst, arith}
+use Rattle.std.proofs.Common.{◌≡◌, ◌≢◌, ◌<◌, ℕ, [], Option, Some, None, MatchOption, refl, sym, ap, ◌∙◌, subst, arith}
 use Rattle.ascii_text.specs.Numbers.{IsValue}
 use Rattle.ascii_text.proofs.Digits.{decimal_same}
 use Rattle.command_words.specs.Given.{Word, Values, value_of}

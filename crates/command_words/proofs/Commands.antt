@@ -1,5 +1,5 @@
 -- What clap says of a command with these options and places, and what its matches hold.
-use Rattle.std.proofs.Common.{◌≡◌, ◌≢◌, ◌&&◌, ◌||◌, ◌<◌, ◌+◌, ℕ, Bool, cond, true, false, not, List, [], ◌∷◌, ◌++◌, map, drop, length, fold, Option, Some, None, refl, sym, ap, ap₂, ◌∙◌, subst, inl, inr, append_assoc, append-nil}
+use Rattle.std.proofs.Common.{◌≡◌, ◌≢◌, ◌&&◌, ◌+◌, ℕ, Bool, cond, true, false, not, List, [], ◌∷◌, ◌++◌, map, drop, fold, Some, refl, sym, ap, ap₂, ◌∙◌, subst, inl, inr, append_assoc, append-nil}
 use Rattle.std.specs.Prelude.{find, option_map, option_and_then, slice_get, string_bytes, String}
 use Rattle.std.specs.Global.{Global}
 use Rattle.std.specs.List.{AllByRecursion, list_all, list_any}
@@ -9,8 +9,8 @@ use Rattle.std.proofs.lemmas.Bool.{and_from}
 use Rattle.std.proofs.lemmas.Str.{IsUtf8-string_bytes}
 use Rattle.clap.specs.Matches.{first_value, found_of}
 use Rattle.clap.specs.Values.{kind_of}
-use Rattle.clap.specs.Walk.{Row, Rule, first_of, is_early_multiple, rows_of}
-use Rattle.clap.specs.Simple.{App, HasMatchesOf, Shape, built, is_ready, is_simple, matches_of, new_shape, with_rule}
+use Rattle.clap.specs.Walk.{Rule, first_of, is_early_multiple, rows_of}
+use Rattle.clap.specs.Simple.{App, HasMatchesOf, Shape, built, is_ready, is_simple, new_shape, with_rule}
 use Rattle.clap.specs.Kinds.{HasKind}
 use Rattle.clap.specs.Faults.{fault_of, is_free_app, is_simple_and_free}
 use Rattle.clap.specs.declared.error.Error.{Error}

@@ -1,10 +1,10 @@
 -- Words that begin with one `-`.
-use Rattle.std.proofs.Common.{◌≡◌, ◌<◌, ◌+◌, ℕ, suc, Bool, cond, true, false, List, [], ◌∷◌, drop, get_or, length, Option, Some, None, refl, sym, ap, ◌∙◌, subst, arith, nat_eq}
+use Rattle.std.proofs.Common.{◌≡◌, ◌+◌, ℕ, Bool, cond, true, false, List, [], ◌∷◌, Option, Some, None, refl, sym, ap, ◌∙◌, subst, arith, nat_eq}
 use Rattle.std.specs.Prelude.{option_and_then, slice_get}
 use Rattle.std.specs.Str.{chars, encode_utf8_all, IsCharBoundary, IsUtf8}
-use Rattle.std.proofs.lemmas.Bool.{true≢false, eqb-true}
+use Rattle.std.proofs.lemmas.Bool.{eqb-true}
 use Rattle.std.proofs.lemmas.Str.{encodes-chars, IsUtf8-drop, IsCharBoundary-after_ascii}
-use Rattle.clap.specs.Lexer.{short_of, short_of_rest, strip_byte}
+use Rattle.clap.specs.Lexer.{short_of, short_of_rest}
 use Rattle.command_words.specs.Given.{Word}
 
 -- what follows the `-`

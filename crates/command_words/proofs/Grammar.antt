@@ -1,7 +1,7 @@
 -- The reading of words finds the arguments that they are spelled by, and no others.
-use Rattle.std.proofs.Common.{◌&&◌, ◌≡◌, ◌≢◌, ◌⊎◌, ◌<◌, ℕ, zero, suc, Bool, cond, true, false, not, List, [], ◌∷◌, ◌++◌, map, length, get_or, Option, Some, None, refl, sym, ap, ap₂, ◌∙◌, subst, inl, inr, arith, nat_eq, codes, unwrap_or, Contains}
-use Rattle.std.specs.Prelude.{option_map, option_and_then}
-use Rattle.std.specs.List.{AllByRecursion, filter_map, flat_map, list_any, list_all}
+use Rattle.std.proofs.Common.{◌&&◌, ◌≡◌, ◌≢◌, ◌⊎◌, ℕ, zero, suc, Bool, cond, true, false, List, [], ◌∷◌, ◌++◌, map, Option, Some, None, refl, sym, ap, ap₂, ◌∙◌, subst, inl, inr, arith, nat_eq, unwrap_or}
+use Rattle.std.specs.Prelude.{option_and_then}
+use Rattle.std.specs.List.{AllByRecursion, filter_map, flat_map, list_any}
 use Rattle.std.specs.Str.{bytes_eq}
 use Rattle.std.proofs.lemmas.Bool.{true≢false, eqb-true, eqb-false, or_parts}
 use Rattle.std.proofs.lemmas.Slice.Eq.{bytes_eq-Decides}
@@ -10,7 +10,7 @@ use Rattle.clap.proofs.CutLemmas.{Lacks}
 use Rattle.clap.proofs.LexerLemmas.{name_and_value-at, name_and_value-without}
 use Rattle.command_words.specs.Given.{Word, Values, Argument, Pair, Joined, Placed, written, given, filled, is_dashed, IsProper, ending}
 use Rattle.command_words.proofs.Rules.{is_option, is_option-Decides}
-use Rattle.command_words.proofs.Reading.{Kind, Read, IsKind, kind, kind_is, marker, opening, whole, wrong, free, more, placed, reading, short_kind, step, trailing}
+use Rattle.command_words.proofs.Reading.{Kind, Read, IsKind, kind, kind_is, marker, opening, whole, wrong, free, more, reading, short_kind, step, trailing}
 
 -- ---- names and values in a word
 

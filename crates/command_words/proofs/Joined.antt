@@ -1,15 +1,15 @@
 -- Clap takes the words of a command exactly where they give values to its options and places, and then has these values.
-use Rattle.std.proofs.Common.{◌≡◌, ◌≢◌, ◌⊎◌, ◌&&◌, ◌||◌, ◌<◌, ◌+◌, ℕ, Bool, cond, true, false, not, List, [], ◌∷◌, ◌++◌, map, length, fold, Option, Some, None, is_some, refl, sym, ap, ap₂, ◌∙◌, subst, inl, inr, ⊎_elim, append_assoc, append-nil, arith, unwrap_or, Contains, nat_lt}
+use Rattle.std.proofs.Common.{◌≡◌, ◌⊎◌, ◌&&◌, ◌||◌, ◌<◌, ◌+◌, ℕ, Bool, cond, true, false, not, List, [], ◌∷◌, ◌++◌, map, length, fold, Option, Some, None, is_some, refl, sym, ap, ap₂, ◌∙◌, subst, ⊎_elim, append-nil, unwrap_or, Contains, nat_lt}
 use Rattle.std.specs.Prelude.{find, option_map}
-use Rattle.std.specs.List.{AllByRecursion, filter_map, flat_map, list_any, list_all}
+use Rattle.std.specs.List.{AllByRecursion, filter_map, list_any, list_all}
 use Rattle.std.specs.Option.{option_map_or}
 use Rattle.std.specs.Str.{bytes_eq, IsUtf8}
-use Rattle.std.proofs.lemmas.Bool.{true≢false, cases_Bool, cond-true, or_cases, or_from, or_left, or_parts, or_right, and_parts, false_from_ne_true, ltb-true, not-true}
+use Rattle.std.proofs.lemmas.Bool.{true≢false, cond-true, or_cases, or_from, or_left, or_parts, or_right, and_parts, false_from_ne_true, ltb-true, not-true}
 use Rattle.std.proofs.lemmas.List.{map-append}
 use Rattle.std.proofs.lemmas.List.Folds.{list_any-append}
 use Rattle.std.proofs.lemmas.Slice.Eq.{bytes_eq-Decides}
 use Rattle.clap.specs.Facts.{explicit_source}
-use Rattle.clap.specs.Walk.{is_empty, Held, Row, Rule, finished, has_row, nothing_held, rows_after, settled, walk, with_default}
+use Rattle.clap.specs.Walk.{is_empty, Held, Row, Rule, has_row, nothing_held, rows_after, settled, walk, with_default}
 use Rattle.clap.specs.Simple.{App, Shape, built, entered, matches_of, names_of}
 use Rattle.clap.specs.Takes.{is_given}
 use Rattle.clap.specs.Kinds.{Kinds, or_else}
@@ -20,7 +20,7 @@ use Rattle.command_words.specs.Given.{Word, Values, Argument, Pair, Joined, Plac
 use Rattle.command_words.proofs.Rules.{built_option, built_place, built_rules, all_filled, is_option, is_option-Decides, places_from}
 use Rattle.command_words.proofs.Reading.{Read, reading}
 use Rattle.command_words.proofs.Settling.{Fresh, Outcome, held, row, rows}
-use Rattle.command_words.proofs.Walking.{AreApart, fault_from, end_from, at, stands, top, or_else_assoc, or_else-nil, some_fault}
+use Rattle.command_words.proofs.Walking.{AreApart, fault_from, end_from, at, stands, top, or_else_assoc, some_fault}
 use Rattle.command_words.proofs.Grammar.{IsOptionName, Lacks-from_test, Part, part_read, read_part}
 use Rattle.clap.specs.Walk.{idle}
 

@@ -1,19 +1,17 @@
 -- What clap reads of the options and the places of a command.
-use Rattle.std.proofs.Common.{◌≡◌, ◌≢◌, ◌<◌, ◌+◌, ◌||◌, ℕ, Bool, cond, true, false, not, List, [], ◌∷◌, ◌++◌, map, length, Option, Some, None, refl, sym, ap, ◌∙◌, subst, min, arith, nat_eq, Contains, inl, inr, ⊎_elim}
-use Rattle.std.specs.Prelude.{find}
-use Rattle.std.specs.List.{list_any, list_all}
+use Rattle.std.proofs.Common.{◌≡◌, ◌<◌, ◌+◌, ◌||◌, ℕ, Bool, cond, true, false, List, [], ◌∷◌, ◌++◌, map, length, Option, Some, None, refl, sym, ap, ◌∙◌, min, arith, Contains}
+use Rattle.std.specs.List.{list_any}
 use Rattle.std.specs.Str.{bytes_eq}
 use Rattle.std.specs.Bool.{Decides}
-use Rattle.std.proofs.lemmas.Bool.{true≢false, cond-true, cond-false, cases_Bool, eq-eqb, ne_eqb, or_parts, or_cases, and_parts, not-true}
-use Rattle.std.proofs.lemmas.Bool.Decides.{Decides-by_or, Decides-at}
+use Rattle.std.proofs.lemmas.Bool.{true≢false, eq-eqb, ne_eqb, or_parts}
+use Rattle.std.proofs.lemmas.Bool.Decides.{Decides-by_or}
 use Rattle.std.proofs.lemmas.List.Elements.{Decides-contains}
 use Rattle.std.proofs.lemmas.Slice.Eq.{bytes_eq-Decides}
 use Rattle.clap.specs.Lexer.{usize_max}
 use Rattle.clap.specs.Walk.{Rule, arg_by_id, arg_by_index, arg_by_long, arg_by_short}
-use Rattle.clap.specs.Simple.{App, built, filled, filled_from, is_simple, new_rule, new_shape, with_index}
-use Rattle.clap.specs.Faults.{is_simple_and_free}
+use Rattle.clap.specs.Simple.{filled, filled_from, with_index}
 use Rattle.command_words.specs.Given.{Word}
-use Rattle.command_words.specs.Clap.{app, option_rule, place_rule}
+use Rattle.command_words.specs.Clap.{option_rule, place_rule}
 
 abbrev pub rules : List Word → List Word → List Rule
 rules options places = map option_rule options ++ map place_rule places

@@ -1,22 +1,22 @@
 -- Clap's walk over the words of a command is their reading.
-use Rattle.std.proofs.Common.{◌≡◌, ◌≢◌, ◌&&◌, ◌||◌, ◌+◌, ◌<◌, ◌⊎◌, ℕ, Bool, cond, true, false, not, List, [], ◌∷◌, ◌++◌, map, length, min, drop, fold, Option, Some, None, is_some, refl, sym, ap, ap₂, ◌∙◌, subst, append_assoc, append-nil, inl, inr, arith, length-append}
-use Rattle.std.specs.Prelude.{find, option_map, slice_get, encode_utf8}
-use Rattle.std.specs.List.{list_any, AllByRecursion}
+use Rattle.std.proofs.Common.{◌≡◌, ◌≢◌, ◌||◌, ◌+◌, ◌<◌, ℕ, Bool, true, false, List, [], ◌∷◌, ◌++◌, length, min, fold, Option, Some, None, refl, sym, ap, ap₂, ◌∙◌, subst, append_assoc, append-nil, inl, inr, arith, length-append}
+use Rattle.std.specs.Prelude.{slice_get}
+use Rattle.std.specs.List.{AllByRecursion}
 use Rattle.std.specs.Str.{bytes_eq, chars, IsUtf8}
-use Rattle.std.proofs.lemmas.Bool.{true≢false, and_right}
+use Rattle.std.proofs.lemmas.Bool.{and_right}
 use Rattle.std.proofs.lemmas.Slice.Eq.{bytes_eq-Decides}
 use Rattle.clap.specs.Lexer.{long_of, short_of, usize_max}
-use Rattle.clap.specs.Walk.{arg_by_id, Held, Rule, Walk, Waiting, after_step, arg_by_index, idle, option, pushed, reacted, settled, value as in_place, walk, walked, is_pending}
-use Rattle.clap.specs.Simple.{Shape, new_shape}
+use Rattle.clap.specs.Walk.{arg_by_id, Held, Rule, Walk, Waiting, after_step, arg_by_index, idle, option, settled, value as in_place, walked, is_pending}
+use Rattle.clap.specs.Simple.{Shape}
 use Rattle.clap.specs.Kinds.{Kinds, or_else}
 use Rattle.clap.specs.Faults.{flags_fault, other_fault, react_fault, settle_fault, step_fault, turn_fault, use_fault, walk_fault}
 use Rattle.clap.specs.declared.error.kind.ErrorKind.{ErrorKind}
 use Rattle.clap.specs.declared.error.kind.ErrorKind.TheVariants as error
-use Rattle.command_words.specs.Given.{Word, Values, value_of}
+use Rattle.command_words.specs.Given.{Word, Values}
 use Rattle.command_words.proofs.Flags.{short_parts, first_flag}
 use Rattle.command_words.proofs.Rules.{built_option, built_place, built_rules, first_place, is_option, by_id, by_index, by_long, by_short, option_by_id}
-use Rattle.command_words.proofs.Reading.{Kind, Read, IsKind, kind, kind_is, marker, opening, whole, wrong, free, more, placed, reading, step, trailing}
-use Rattle.command_words.proofs.Settling.{Outcome, Known, IsKnown, held, single, with_pending, after_settled, use_nothing}
+use Rattle.command_words.proofs.Reading.{Kind, Read, IsKind, kind, kind_is, marker, opening, whole, wrong, free, more, reading, step, trailing}
+use Rattle.command_words.proofs.Settling.{Outcome, Known, IsKnown, held, with_pending, after_settled, use_nothing}
 
 pub or_else_assoc : (a b d : Kinds) → or_else (or_else a b) d ≡ or_else a (or_else b d)
 or_else_assoc [] b d = refl

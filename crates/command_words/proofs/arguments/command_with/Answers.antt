@@ -1,6 +1,6 @@
 use Rattle.std.proofs.Common.{◌≡◌, ap, true, ◌∙◌, codes}
 use Rattle.std.proofs.lemmas.Result.{IfOk-weaker}
-use Rattle.clap.specs.Words.{app_of, with_rule}
+use Rattle.clap.specs.Words.{app_of}
 use Rattle.clap.specs.Simple.{app_of_fields, on_top}
 use Rattle.command_words.proofs.Commands.{bare, made}
 use Rattle.command_words.proofs.arguments.command_with.Goals as goal

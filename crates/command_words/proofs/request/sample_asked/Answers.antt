@@ -1,6 +1,5 @@
-use Rattle.std.proofs.Common.{◌≡◌, true, List, map, rules, codes, subst, string_bytes}
+use Rattle.std.proofs.Common.{◌≡◌, true, map, rules, codes, subst, string_bytes}
 use Rattle.std.proofs.lemmas.Bool.{not-false}
-use Rattle.command_words.specs.Given.{Word}
 use Rattle.command_words.specs.Asking.{IsSample, sample_options, size_place}
 use Rattle.command_words.proofs.Commands.{texts}
 use Rattle.command_words.proofs.Words.{IsFirst, none_given, some_given, sample_result}
