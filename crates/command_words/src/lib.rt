@@ -13,3 +13,6 @@ pub use options::{
     MOST_BUDGET, MOST_SIZE, MOST_WEIGHT, MOST_WORKERS,
 };
 pub use request::{Request, Search, request_of};
+
+#[cfg(test)]
+mod tests;
