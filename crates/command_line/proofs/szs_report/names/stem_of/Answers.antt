@@ -1,5 +1,0 @@
-use Rattle.command_line.proofs.Slashes.{own_stem}
-use Rattle.command_line.proofs.szs_report.names.stem_of.Goals as goal
-
-pub returns-in_default-2 : goal.returns-in_default-2
-returns-in_default-2 c = own_stem c.args.name.now (rw c.in_default.is at c.strip_suffix.ensures.cases)

@@ -1,0 +1,4 @@
+pub mod Gaining
+pub mod SampleNames
+pub mod Slashes
+pub mod SetLines

@@ -1,0 +1,9 @@
+pub mod CheckLines
+pub mod FormLines
+pub mod Lines
+pub mod ModelLines
+pub mod Names
+pub mod Outputs
+pub mod Printing
+pub mod ProveLines
+pub mod Troubles
