@@ -1,13 +1,11 @@
-pub mod Gaining
+pub mod Asked
 pub mod Memory
-pub mod Slashes
-pub mod Words
 pub mod OneFinding
+pub mod OneListing
 pub mod OneReject
 pub mod SearchEnds
 pub mod OneReply
 pub mod Outcomes
 pub mod Replying
-pub mod SetLines
 pub mod Proving
 pub mod PrintedProofs

@@ -1,7 +1,7 @@
 -- The status line of want of memory, as it is put in three pieces.
 use Rattle.std.proofs.Common.{◌≡◌, ℕ, List, [], ◌∷◌, ◌++◌, Some, append-nil, ap, ◌∙◌}
 use Rattle.std.specs.Prelude.{codes}
-use Rattle.command_line.specs.Printing.{text_of}
+use Rattle.szs_report.specs.Printing.{text_of}
 use Rattle.command_line.specs.Refusals.{memory_printout}
 
 name_line : (name : List ℕ) → ((name ++ []) ++ 10 ∷ []) ++ [] ≡ name ++ ((10 ∷ []) ++ [])

@@ -11,27 +11,33 @@ use Rattle.cnf_reader.specs.Reading.{kind_read}
 use Rattle.cnf_reader.specs.declared.fault.ReadKind.{ReadKind}
 use Rattle.cnf_reader.specs.declared.fault.ReadKind.TheVariants.{Files, ProblemAbsent, IncludeAbsent, TooLong}
 use Rattle.cnf_reader.specs.declared.fault.ReadFault.TheVariants.{At, NoMemory as NoMemoryToRead}
-use Rattle.command_line.specs.Asking.{Request, Prove, Check, Forms, Asks, problem_file}
-use Rattle.command_line.specs.Checks.{check_status}
-use Rattle.command_line.specs.Names.{name_of}
-use Rattle.command_line.specs.Problems.{IsProblemOf}
-use Rattle.command_line.specs.ProveLines.{finding_status}
-use Rattle.command_line.specs.Searched.{EndsWith, default_limits, search_of}
-use Rattle.command_line.specs.declared.finding.Finding.{Finding}
-use Rattle.command_line.specs.declared.finding.Finding.TheVariants.{Unsatisfiable, Satisfiable, GaveUp}
 use Rattle.mg_word.specs.Facts.{ProblemData}
+use Rattle.command_words.specs.Asking.{Request, Prove, Models, Check, Forms, Sample}
+use Rattle.szs_report.specs.Names.{name_of}
+use Rattle.szs_report.specs.declared.check.CheckAnswer.{CheckAnswer}
+use Rattle.szs_report.specs.declared.check.CheckAnswer.TheVariants.{Accepted, Rejected, Unread as UnreadTree}
 use Rattle.tree_board.specs.Alone.{FitsPlain}
 use Rattle.tree_board.specs.Searches.{Search, setting_of}
+use Rattle.tree_board.specs.declared.mode.Limit.{Limit}
+use Rattle.tree_board.specs.declared.mode.Limits.{Limits}
+use Rattle.command_line.specs.Checks.{check_status}
+use Rattle.command_line.specs.Listed.{Listed, IsListed, listed_status}
 use Rattle.command_line.specs.Printing.{Prints, IsWhole}
-use Rattle.command_line.specs.Refusals.{Unread, Unformed, TreeAbsent, TreeFailed, MemoryOut, IsRefusal, refusal_read, read_status, memory_printout}
-use Rattle.command_line.specs.Replies.{Reply, Usage, Answered, Refused, Answer, IsAnswer, IsReplyTo, IsRightReply, HasCause, IsCounted, answer_printout, reply_read, reply_name, printout_of}
-use Rattle.command_line.specs.Runs.{AreDetermined, Fits, IsDetermined, Outside, Runs, NoneFailed, IsPrinted, IsOnly, IsFailure, IsExact, SomePutFailed}
+use Rattle.command_line.specs.Problems.{IsProblemOf}
+use Rattle.command_line.specs.Proves.{Proved, IsProved, finding_status, prove_printout}
+use Rattle.command_line.specs.Refusals.{Refusal, Unread, Unformed, TreeAbsent, TreeFailed, MemoryOut, IsRefusal, refusal_read, read_status, memory_printout}
+use Rattle.command_line.specs.Replies.{Reply, Usage, WordsLost, Answered, Refused, Answer, AreCounted, IsAnswer, IsReplyTo, IsRightReply, HasCause, IsCounted, answer_printout, reply_read, reply_name, printout_of}
+use Rattle.command_line.specs.Runs.{AreDetermined, Fits, IsDetermined, IsThere, Outside, Runs, NoneFailed, IsPrinted, IsOnly, IsFailure, IsExact, RanOut, SomePutFailed}
+use Rattle.command_line.specs.Searched.{EndsWith, search_of}
+use Rattle.command_line.specs.Sources.{Source, OfFile, OfSample, IsFaultOf, source_name}
 use Rattle.command_line.specs.Statuses.{code}
+use Rattle.command_line.specs.Wanted.{AsksOne, sample_limits, search_limits, searched_file, source_of, tree_file}
+use Rattle.command_line.specs.declared.finding.Finding.{Finding}
+use Rattle.command_line.specs.declared.finding.Finding.TheVariants.{Unsatisfiable, Satisfiable, GaveUp}
 use Rattle.command_line.specs.declared.printout.Printout.{Printout}
 use Rattle.command_line.specs.declared.status.Status.TheVariants.{Failed}
-use Rattle.command_line.specs.declared.szs_report.check.CheckAnswer.{CheckAnswer}
-use Rattle.command_line.specs.declared.szs_report.check.CheckAnswer.TheVariants.{Accepted, Rejected, Unread as UnreadTree}
-use Rattle.command_line.proofs.OneReply.{one_problem_of, one_reply, one_request, refused_not, shown}
+use Rattle.command_line.proofs.OneListing.{listed_whole}
+use Rattle.command_line.proofs.OneReply.{one_asked, one_problem_of, one_reply, refused_not, shown}
 
 put_rose : (before now : ℕ) → now ≡ one_more before → Rose before now
 put_rose before now is = rw is (omega arith)
@@ -42,17 +48,17 @@ whole printout out out' err err' status (inl all) quiet silent = all
 whole printout out out' err err' status (inr (inl failed)) quiet silent = absurd (quiet (put_rose out.faults out'.faults failed.lines.counted))
 whole printout out out' err err' status (inr (inr failed)) quiet silent = absurd (silent (put_rose err.faults err'.faults failed.messages.counted))
 
--- the lines of replies to the same words have one name
-one_name : (words : List (List ℕ)) (a b : Reply) → IsReplyTo words a → IsReplyTo words b → reply_name a ≡ reply_name b
-one_name words Usage Usage p q = refl
-one_name words Usage (Answered request answer) p q = absurd (p request q)
-one_name words Usage (Refused request refusal) p q = absurd (p request q)
-one_name words (Answered request answer) Usage p q = absurd (q request p)
-one_name words (Refused request refusal) Usage p q = absurd (q request p)
-one_name words (Answered r a) (Answered s b) p q = ap (λ one. Some (name_of (problem_file one))) (one_request words r s p q)
-one_name words (Answered r a) (Refused s b) p q = ap (λ one. Some (name_of (problem_file one))) (one_request words r s p q)
-one_name words (Refused r a) (Answered s b) p q = ap (λ one. Some (name_of (problem_file one))) (one_request words r s p q)
-one_name words (Refused r a) (Refused s b) p q = ap (λ one. Some (name_of (problem_file one))) (one_request words r s p q)
+-- the lines of replies to the same words have one name, or the words were not read
+one_name : (words : List (List ℕ)) (a b : Reply) → IsReplyTo words a → IsReplyTo words b → b ≢ WordsLost → (reply_name a ≡ reply_name b) ⊎ (reply_name a ≡ None)
+one_name words Usage b p q read = inr refl
+one_name words WordsLost b p q read = inr refl
+one_name words (Answered request answer) Usage p q read = absurd (q request p)
+one_name words (Refused request refusal) Usage p q read = absurd (q request p)
+one_name words a WordsLost p q read = absurd (read refl)
+one_name words (Answered r a) (Answered s b) p q read = inl (ap (λ one. Some (source_name (source_of one))) (one_asked words r s p q))
+one_name words (Answered r a) (Refused s b) p q read = inl (ap (λ one. Some (source_name (source_of one))) (one_asked words r s p q))
+one_name words (Refused r a) (Answered s b) p q read = inl (ap (λ one. Some (source_name (source_of one))) (one_asked words r s p q))
+one_name words (Refused r a) (Refused s b) p q read = inl (ap (λ one. Some (source_name (source_of one))) (one_asked words r s p q))
 
 done_known : ReadDone ≡ ReadNoMemory → ⊥
 done_known same = cc
@@ -67,6 +73,7 @@ kind_known kind same = done_known same
 -- a reply that has its cause is not want of memory, or it prints that
 known : (told : Option Table) (reply : Reply) → HasCause told reply → (reply_read reply ≢ ReadNoMemory) ⊎ (printout_of reply ≡ memory_printout (reply_name reply))
 known told Usage cause = inl (λ same. done_known same)
+known told WordsLost cause = inr refl
 known told (Answered request answer) cause = inl (λ same. done_known same)
 known told (Refused request (Unread (At kind file line column subject))) cause = inl (kind_known kind)
 known told (Refused request (Unread NoMemoryToRead)) cause = absurd (cause.some refl)
@@ -82,10 +89,30 @@ known told (Refused request (TreeFailed tree)) cause = inl failed
 known told (Refused request MemoryOut) cause = inr refl
 
 -- the reads of a reply that came from a failed one are counted as such
-read_failed : (reply : Reply) (before now : Counts) → IsCounted reply before now → reply_read reply ≡ ReadFailed → SomeFailed before now
-read_failed Usage before now counted failed = cc
-read_failed (Answered request answer) before now counted failed = cc
-read_failed (Refused request refusal) before now counted failed = failed_last before now (subst (λ answer. CallEnds answer before now) failed counted)
+source_failed : (source : Source) (answer : ReadAnswer) (before now : Counts) → AreCounted source answer before now → answer ≡ ReadFailed → ((size : ℕ) → source ≡ OfSample size → ⊥) → SomeFailed before now
+source_failed (OfFile file root) answer before now counted failed file_read = failed_last before now (subst (λ answer. CallEnds answer before now) failed counted)
+source_failed (OfSample size) answer before now counted failed file_read = absurd (file_read size refl)
+
+no_tree : (request : Request) (tree : List ℕ) (size : ℕ) → tree_file request ≡ Some tree → source_of request ≡ OfSample size → ⊥
+no_tree (Prove search) tree size named is = cc
+no_tree (Models search) tree size named is = cc
+no_tree (Check file own root) tree size named is = cc
+no_tree (Forms file root) tree size named is = cc
+no_tree (Sample own workers budget) tree size named is = cc
+
+-- a refusal behind a failed read is not that of a sample
+file_failed : (request : Request) (told : Option Table) (refusal : Refusal) → IsRefusal request told refusal → refusal_read refusal ≡ ReadFailed → (size : ℕ) → source_of request ≡ OfSample size → ⊥
+file_failed request told (Unread fault) cause failed size is = subst (λ source. IsFaultOf told source fault) is cause.stands
+file_failed request told (Unformed input fault) cause failed size is = cc
+file_failed request told (TreeAbsent tree) cause failed size is = cc
+file_failed request told (TreeFailed tree) cause failed size is = no_tree request tree size cause.named is
+file_failed request told MemoryOut cause failed size is = cc
+
+read_failed : (told : Option Table) (reply : Reply) (before now : Counts) → HasCause told reply → IsCounted reply before now → reply_read reply ≡ ReadFailed → SomeFailed before now
+read_failed told Usage before now cause counted failed = cc
+read_failed told WordsLost before now cause counted failed = cc
+read_failed told (Answered request answer) before now cause counted failed = cc
+read_failed told (Refused request refusal) before now cause counted failed = source_failed (source_of request) (refusal_read refusal) before now counted failed (file_failed request told refusal cause failed)
 
 -- the reply is right and was printed, or that memory ran out
 data RightOrOut (words : List (List ℕ)) (files : Table) (before now : Outside) (status : ℕ) (reply : Reply) : Type 0 where
@@ -100,7 +127,7 @@ right_or_out words before now status runs files told none = by runs.printed
     cause = subst (λ one. HasCause one runs.reply) told runs.cause
 
     one : IsPrinted (printout_of runs.reply) before now status → (reply_read runs.reply ≢ ReadNoMemory) ⊎ (printout_of runs.reply ≡ memory_printout (reply_name runs.reply)) → RightOrOut words files before now status runs.reply
-    one printed (inl enough) = right_printed (record { to = runs.to; cause = cause; whole = λ failed. none.reads (read_failed runs.reply before.counts now.counts runs.counted failed); enough = enough }) printed
+    one printed (inl enough) = right_printed (record { to = runs.to; cause = cause; whole = λ failed. none.reads (read_failed before.told runs.reply before.counts now.counts runs.cause runs.counted failed); enough = enough }) printed
     one printed (inr memory_out) = memory_printed (subst (λ printout. IsPrinted printout before now status) memory_out printed)
 
     by : Prints (printout_of runs.reply) before.out now.out before.err now.err status ⊎ Prints (memory_printout (reply_name runs.reply)) before.out now.out before.err now.err status → RightOrOut words files before now status runs.reply
@@ -111,17 +138,24 @@ right_or_out words before now status runs files told none = by runs.printed
 pub only : (words : List (List ℕ)) (before now : Outside) (status : ℕ) → Runs words before now status → IsOnly words before now status
 only words before now status runs files told determined none reply right = by (right_or_out words before now status runs files told none)
   where
-    by : RightOrOut words files before now status runs.reply → IsPrinted (printout_of reply) before now status ⊎ IsPrinted (memory_printout (reply_name reply)) before now status
+    read : reply ≢ WordsLost
+    read lost = right.enough (ap reply_read lost)
+
+    named : (reply_name runs.reply ≡ reply_name reply) ⊎ (reply_name runs.reply ≡ None) → IsPrinted (memory_printout (reply_name runs.reply)) before now status → RanOut (reply_name reply) before now status
+    named (inl same) printed = inl (subst (λ name. IsPrinted (memory_printout name) before now status) same printed)
+    named (inr none) printed = inr (subst (λ name. IsPrinted (memory_printout name) before now status) none printed)
+
+    by : RightOrOut words files before now status runs.reply → IsPrinted (printout_of reply) before now status ⊎ RanOut (reply_name reply) before now status
     by (right_printed own printed) = inl (subst (λ one. IsPrinted (printout_of one) before now status) (one_reply files words determined runs.reply reply own right) printed)
-    by (memory_printed printed) = inr (subst (λ name. IsPrinted (memory_printout name) before now status) (one_name words runs.reply reply runs.to right.to) printed)
+    by (memory_printed printed) = inr (named (one_name words runs.reply reply runs.to right.to read) printed)
 
 memory_code : (name : Option (List ℕ)) → code (memory_printout name).status ≡ 4
 memory_code None = refl
 memory_code (Some name) = refl
 
 -- where the words ask for one command, that is the only one
-asked : (words : List (List ℕ)) (files : Table) (request : Request) → Asks words request → IsDetermined files request → AreDetermined words files
-asked words files request asks is other asks' = subst (IsDetermined files) (one_request words request other asks asks') is
+asked : (words : List (List ℕ)) (files : Table) (request : Request) → AsksOne words request → IsDetermined files request → AreDetermined words files
+asked words files request asks is other asks' = subst (IsDetermined files) (one_asked words request other asks asks') is
 
 -- a search whose plain tree fits the limits does not give up
 fitting_status : (search : Search) (finding : Finding) → FitsPlain (setting_of search) → EndsWith search finding → code (finding_status finding) ≡ 0
@@ -129,41 +163,63 @@ fitting_status search (Unsatisfiable doc) fits ends = refl
 fitting_status search (Satisfiable set) fits ends = refl
 fitting_status search (GaveUp limit) fits ends = absurd (ends.exceeds fits)
 
--- the right reply to the words, where the problem is there and its plain tree fits the limits
-prove_status : (words : List (List ℕ)) (files : Table) (file : List ℕ) (problem : ProblemData) → Asks words (Prove file) → IsProblemOf (Some files) file problem → Fits problem
-    → (reply : Reply) → IsRightReply words files reply → code (printout_of reply).status ≡ 0
-prove_status words files file problem asks there fits Usage right = absurd (right.to (Prove file) asks)
-prove_status words files file problem asks there fits (Answered request answer) right =
-    subst (λ request. (answer : Answer request) → IsAnswer request (Some files) answer → code (answer_printout request answer).status ≡ 0) (one_request words (Prove file) request asks right.to) answered answer right.cause
-  where
-    answered : (answer : Answer (Prove file)) → IsAnswer (Prove file) (Some files) answer → code (answer_printout (Prove file) answer).status ≡ 0
-    answered answer is =
-        let same : problem ≡ answer.problem = one_problem_of files file problem answer.problem there is.is in
-        fitting_status (search_of answer.problem default_limits is.journal) answer.finding (subst Fits same fits) is.found.ends
-prove_status words files file problem asks there fits (Refused request refusal) right =
-    let same : request ≡ Prove file = one_request words request (Prove file) right.to asks in
-    absurd (refused_not files file problem refusal there (shown files (Prove file) refusal (subst (λ one. IsRefusal one (Some files) refusal) same right.cause) right.whole right.enough))
+module _ (files : Table) where
+  proved_status : (source : Source) (limits : Limits) (name : List ℕ) (problem : ProblemData) → IsProblemOf (Some files) source problem → Fits problem limits
+      → (answer : Proved) → IsProved (Some files) source limits answer → code (prove_printout name limits answer).status ≡ 0
+  proved_status source limits name problem there fits answer is =
+      let same : problem ≡ answer.problem = one_problem_of files source problem answer.problem there is.is in
+      fitting_status (search_of answer.problem limits is.journal) answer.finding (subst (λ one. Fits one limits) same fits) is.found.ends
 
--- a run that asks for what is in told files succeeds
-pub exact : (words : List (List ℕ)) (before now : Outside) (status : ℕ) → Runs words before now status → IsExact words before now status
-exact words before now status runs (Prove file) asks files told (problem, there, fits) none =
-    by (right_or_out words before now status runs files told none)
-  where
-    by : RightOrOut words files before now status runs.reply → (status ≡ 0) ⊎ (status ≡ 4)
-    by (right_printed right printed) = inl (printed.status_is ∙ prove_status words files file problem asks there fits runs.reply right)
-    by (memory_printed printed) = inr (printed.status_is ∙ memory_code (reply_name runs.reply))
-exact words before now status runs (Check file tree) asks files told there none =
-    by (only words before now status runs files told (asked words files (Check file tree) asks tt) none (Answered (Check file tree) Accepted) (record { to = asks; cause = there; whole = λ same. cc; enough = λ same. cc }))
-  where
-    by : IsPrinted (printout_of (Answered (Check file tree) Accepted)) before now status ⊎ IsPrinted (memory_printout (Some (name_of file))) before now status → (status ≡ 0) ⊎ (status ≡ 4)
-    by (inl printed) = inl printed.status_is
-    by (inr printed) = inr printed.status_is
-exact words before now status runs (Forms file) asks files told (problem, there) none =
-    by (only words before now status runs files told (asked words files (Forms file) asks tt) none (Answered (Forms file) problem) (record { to = asks; cause = there; whole = λ same. cc; enough = λ same. cc }))
-  where
-    by : IsPrinted (printout_of (Answered (Forms file) problem)) before now status ⊎ IsPrinted (memory_printout (Some (name_of file))) before now status → (status ≡ 0) ⊎ (status ≡ 4)
-    by (inl printed) = inl printed.status_is
-    by (inr printed) = inr printed.status_is
+  listed_status_0 : (source : Source) (limits : Limits) (problem : ProblemData) → IsProblemOf (Some files) source problem → Fits problem limits
+      → (answer : Listed) → IsListed (Some files) source limits answer → code (listed_status answer.gave_up) ≡ 0
+  listed_status_0 source limits problem there fits answer is =
+      let same : problem ≡ answer.problem = one_problem_of files source problem answer.problem there is.is in
+      ap (λ gave_up. code (listed_status gave_up)) (listed_whole answer.problem limits is.journal answer.sets answer.gave_up (subst (λ one. Fits one limits) same fits) is.lists)
+
+  -- the status of a right answer, where the problem is there and its plain tree fits the limits; no tree is asked for
+  there_status : (request : Request) → IsThere files request → tree_file request ≡ None → (answer : Answer request) → IsAnswer request (Some files) answer → code (answer_printout request answer).status ≡ 0
+  there_status (Prove search) there none answer is = proved_status (searched_file search) (search_limits search) (name_of search.file) there.problem there.is there.fits answer is
+  there_status (Models search) there none answer is = listed_status_0 (searched_file search) (search_limits search) there.problem there.is there.fits answer is
+  there_status (Check file tree root) there none answer is = cc
+  there_status (Forms file root) there none answer is = refl
+  there_status (Sample size workers budget) there none answer is = listed_status_0 (OfSample size) (sample_limits budget) there.problem there.is there.fits answer is
+
+  -- the right reply to the words succeeds there
+  reply_status : (words : List (List ℕ)) (request : Request) → AsksOne words request → IsThere files request → tree_file request ≡ None → (reply : Reply) → IsRightReply words files reply → code (printout_of reply).status ≡ 0
+  reply_status words request asks there none Usage right = absurd (right.to request asks)
+  reply_status words request asks there none WordsLost right = absurd (right.enough refl)
+  reply_status words request asks there none (Answered other answer) right =
+      subst (λ one. (answer : Answer one) → IsAnswer one (Some files) answer → code (answer_printout one answer).status ≡ 0) (one_asked words request other asks right.to) (there_status request there none) answer right.cause
+  reply_status words request asks there none (Refused other refusal) right =
+      let same : other ≡ request = one_asked words other request right.to asks in
+      absurd (refused_not files request there.problem refusal there.is (λ tree named absent. no_name (tree_file request) tree none named)
+      (shown files request refusal (subst (λ one. IsRefusal one (Some files) refusal) same right.cause) right.whole right.enough))
+    where
+      no_name : (named : Option (List ℕ)) (tree : List ℕ) → named ≡ None → named ≡ Some tree → ⊥
+      no_name named tree none is = cc
+
+-- a run that asks for a problem that is there succeeds
+module _ (words : List (List ℕ)) (before now : Outside) (status : ℕ) (runs : Runs words before now status) where
+  there_exact : (request : Request) → AsksOne words request → (files : Table) → before.told ≡ Some files → IsThere files request → tree_file request ≡ None → NoneFailed before now → (status ≡ 0) ⊎ (status ≡ 4)
+  there_exact request asks files told there no_tree_named none = by (right_or_out words before now status runs files told none)
+    where
+      by : RightOrOut words files before now status runs.reply → (status ≡ 0) ⊎ (status ≡ 4)
+      by (right_printed right printed) = inl (printed.status_is ∙ reply_status files words request asks there no_tree_named runs.reply right)
+      by (memory_printed printed) = inr (printed.status_is ∙ memory_code (reply_name runs.reply))
+
+  -- so does one that asks for what is in told files
+  pub exact : IsExact words before now status
+  exact (Prove search) asks files told there none = there_exact (Prove search) asks files told there refl none
+  exact (Models search) asks files told there none = there_exact (Models search) asks files told there refl none
+  exact (Check file tree root) asks files told there none =
+      by (only words before now status runs files told (asked words files (Check file tree root) asks tt) none (Answered (Check file tree root) Accepted) (record { to = asks; cause = there; whole = λ same. cc; enough = λ same. cc }))
+    where
+      by : IsPrinted (printout_of (Answered (Check file tree root) Accepted)) before now status ⊎ RanOut (Some (name_of file)) before now status → (status ≡ 0) ⊎ (status ≡ 4)
+      by (inl printed) = inl printed.status_is
+      by (inr (inl printed)) = inr printed.status_is
+      by (inr (inr printed)) = inr printed.status_is
+  exact (Forms file root) asks files told there none = there_exact (Forms file root) asks files told there refl none
+  exact (Sample size workers budget) asks files told there none = there_exact (Sample size workers budget) asks files told there refl none
 
 -- a printout gives its own status, or that of a failure
 own_status : (printout : Printout) (out out' err err' : SinkSeen) (status : ℕ) → Prints printout out out' err err' status → (status ≡ code printout.status) ⊎ (status ≡ 3)
@@ -213,14 +269,20 @@ call_quiet ReadFailed before now whole enough ends = absurd (whole refl)
 call_quiet ReadNoMemory before now whole enough ends = absurd (enough refl)
 
 -- what a reply counts, where no read failed
+source_quiet : (source : Source) (answer : ReadAnswer) (before now : Counts) → answer ≢ ReadFailed → answer ≢ ReadNoMemory → AreCounted source answer before now → now.faults ≡ before.faults
+source_quiet (OfFile file root) answer before now whole enough counted = call_quiet answer before now whole enough counted
+source_quiet (OfSample size) answer before now whole enough counted = ap (λ (counts : Counts). counts.faults) counted
+
 reply_quiet : (reply : Reply) (before now : Counts) → IsCounted reply before now → reply_read reply ≢ ReadFailed → reply_read reply ≢ ReadNoMemory → now.faults ≡ before.faults
 reply_quiet Usage before now counted whole enough = ap (λ (counts : Counts). counts.faults) counted
-reply_quiet (Answered request answer) before now counted whole enough = none_failed ReadDone before now whole counted
-reply_quiet (Refused request refusal) before now counted whole enough = call_quiet (refusal_read refusal) before now whole enough counted
+reply_quiet WordsLost before now counted whole enough = ap (λ (counts : Counts). counts.faults) counted
+reply_quiet (Answered request answer) before now counted whole enough = source_quiet (source_of request) ReadDone before now whole enough counted
+reply_quiet (Refused request refusal) before now counted whole enough = source_quiet (source_of request) (refusal_read refusal) before now whole enough counted
 
 -- the status of a reply behind a failed read is that of a failure
 failed_status : (reply : Reply) → reply_read reply ≡ ReadFailed → (printout_of reply).status ≡ Failed
 failed_status Usage failed = absurd (done_fine failed)
+failed_status WordsLost failed = cc
 failed_status (Answered request answer) failed = absurd (done_fine failed)
 failed_status (Refused request (Unread (At kind file line column subject))) failed = failed_kind kind file line column subject failed
 failed_status (Refused request (Unread NoMemoryToRead)) failed = cc
@@ -244,13 +306,20 @@ finding_fine (Unsatisfiable doc) same = omega arith
 finding_fine (Satisfiable set) same = omega arith
 finding_fine (GaveUp limit) same = omega arith
 
+listed_fine : (gave_up : Option Limit) → 3 ≡ code (listed_status gave_up) → ⊥
+listed_fine None same = omega arith
+listed_fine (Some limit) same = omega arith
+
 answer_fine : (request : Request) (answer : Answer request) → 3 ≡ code (answer_printout request answer).status → ⊥
-answer_fine (Prove file) answer same = finding_fine answer.finding same
-answer_fine (Check file tree) answer same = check_fine answer same
-answer_fine (Forms file) answer same = omega arith
+answer_fine (Prove search) answer same = finding_fine answer.finding same
+answer_fine (Models search) answer same = listed_fine answer.gave_up same
+answer_fine (Check file tree root) answer same = check_fine answer same
+answer_fine (Forms file root) answer same = omega arith
+answer_fine (Sample size workers budget) answer same = listed_fine answer.gave_up same
 
 behind_failure : (reply : Reply) → 3 ≡ code (printout_of reply).status → reply_read reply ≡ ReadFailed
 behind_failure Usage same = absurd (omega arith)
+behind_failure WordsLost same = absurd (omega arith)
 behind_failure (Answered request answer) same = absurd (answer_fine request answer same)
 behind_failure (Refused request (Unread (At kind file line column subject))) same = other_kind kind file line column subject same
 behind_failure (Refused request (Unread NoMemoryToRead)) same = absurd (omega arith)
@@ -297,7 +366,7 @@ failure words before now status runs = record { put = put runs.printed; read = r
     by_cause : Prints (printout_of runs.reply) before.out now.out before.err now.err status ⊎ Prints (memory_printout (reply_name runs.reply)) before.out now.out before.err now.err status → status ≡ 3 → NoneFailed before now → ⊥
     by_cause (inl prints) is none =
         let all = whole (printout_of runs.reply) before.out now.out before.err now.err status prints none.output none.messages in
-        none.reads (read_failed runs.reply before.counts now.counts runs.counted (behind_failure runs.reply (sym is ∙ all.status_is)))
+        none.reads (read_failed before.told runs.reply before.counts now.counts runs.cause runs.counted (behind_failure runs.reply (sym is ∙ all.status_is)))
     by_cause (inr prints) is none =
         let all = whole (memory_printout (reply_name runs.reply)) before.out now.out before.err now.err status prints none.output none.messages in
         memory_fine (reply_name runs.reply) (sym is ∙ all.status_is)

@@ -1,5 +1,5 @@
 -- What is printed of a proof is the text of its document, but for the lines that begin with `%`.
-use Rattle.std.proofs.Common.{◌≡◌, ℕ, true, false, List, [], ◌∷◌, ◌++◌, map, Some, refl, sym, ap, ◌∙◌, subst, codes, append-nil, append_assoc}
+use Rattle.std.proofs.Common.{◌≡◌, ℕ, true, false, List, [], ◌∷◌, ◌++◌, map, Option, Some, refl, sym, ap, ◌∙◌, subst, codes, append-nil, append_assoc}
 use Rattle.mg_word.specs.Facts.{ProblemData, IsProblem}
 use Rattle.mg_word.specs.Spelling.{spelled}
 use Rattle.mg_outside.specs.Reading.{Table}
@@ -14,15 +14,18 @@ use Rattle.proof_tree.specs.Standing.{Place, at_header, in_root, Leads, place_be
 use Rattle.proof_tree.proofs.BareLines.{line_kept, line_passed}
 use Rattle.proof_tree.proofs.DocLeads.{doc_leads}
 use Rattle.proof_tree.proofs.DocOrFault.{line_none, right_parts}
+use Rattle.szs_report.specs.Lines.{joined, line_of, status_line}
+use Rattle.szs_report.specs.Names.{name_of}
+use Rattle.szs_report.specs.Outputs.{end_line, start_line}
+use Rattle.szs_report.specs.Printing.{text_of}
+use Rattle.szs_report.specs.ProveLines.{proof_lines}
+use Rattle.szs_report.specs.declared.check.CheckAnswer.TheVariants.{Accepted}
+use Rattle.tree_board.specs.declared.mode.Limits.{Limits}
 use Rattle.command_line.specs.Checks.{IsChecked}
-use Rattle.command_line.specs.Lines.{joined, line_of, status_line}
-use Rattle.command_line.specs.Names.{name_of}
-use Rattle.command_line.specs.Printing.{text_of}
-use Rattle.command_line.specs.ProveLines.{end_line, proof_lines, start_line}
 use Rattle.command_line.specs.Proves.{Proved, IsProved, prove_printout}
-use Rattle.command_line.specs.Searched.{EndsWith, default_limits, search_of}
+use Rattle.command_line.specs.Searched.{EndsWith, search_of}
+use Rattle.command_line.specs.Sources.{OfFile}
 use Rattle.command_line.specs.declared.finding.Finding.TheVariants.{Unsatisfiable}
-use Rattle.command_line.specs.declared.szs_report.check.CheckAnswer.TheVariants.{Accepted}
 
 -- a line of parts that begins with `%` and has no line feed is passed over
 remark : (parts : List (List ℕ)) (after : List ℕ) → has_no_feed (joined parts) ≡ true → begins_with (37 ∷ []) (joined parts ++ 10 ∷ after) ≡ true → bare (line_of parts ++ after) ≡ bare after
@@ -77,20 +80,20 @@ module _ (name : List ℕ) (none : has_no_feed name ≡ true) where
         ∙ (ap (λ t. text ++ t) (end_passed []) ∙ append-nil text)))
 
 -- all that is printed of a proof is a tree that is accepted
-pub proofs_are_accepted : (files : Table) (file tree : List ℕ) (answer : Proved) (doc : Doc) → IsProved (Some files) file default_limits answer → answer.finding ≡ Unsatisfiable doc
-    → has_no_feed (name_of file) ≡ true → files tree ≡ Some (text_of (prove_printout (name_of file) default_limits answer).out) → IsChecked (Some files) file tree Accepted
-proofs_are_accepted files file tree answer doc right finding none there =
-    let ends = subst (EndsWith (search_of answer.problem default_limits right.journal)) finding right.found.ends in
+pub proofs_are_accepted : (files : Table) (file tree : List ℕ) (root : Option (List ℕ)) (limits : Limits) (answer : Proved) (doc : Doc) → IsProved (Some files) (OfFile file root) limits answer → answer.finding ≡ Unsatisfiable doc
+    → has_no_feed (name_of file) ≡ true → files tree ≡ Some (text_of (prove_printout (name_of file) limits answer).out) → IsChecked (Some files) (OfFile file root) tree Accepted
+proofs_are_accepted files file tree root limits answer doc right finding none there =
+    let ends = subst (EndsWith (search_of answer.problem limits right.journal)) finding right.found.ends in
     record {
       problem = answer.problem;
       is = right.is;
-      text = text_of (prove_printout (name_of file) default_limits answer).out;
+      text = text_of (prove_printout (name_of file) limits answer).out;
       there = there;
       judged = record {
         doc = doc;
         read = record {
           well_formed = ends.well_formed;
-          text = ap (λ one. bare (text_of (prove_printout (name_of file) default_limits (record { problem = answer.problem; finding = one })).out)) finding ∙ proof_bare (name_of file) none answer.problem right.is.sound doc ends.well_formed;
+          text = ap (λ one. bare (text_of (prove_printout (name_of file) limits (record { problem = answer.problem; finding = one })).out)) finding ∙ proof_bare (name_of file) none answer.problem right.is.sound doc ends.well_formed;
         };
         accepts = ends.accepts;
         refuted = ends.refuted;

@@ -5,34 +5,35 @@ use Rattle.std.specs.Option.{option_map}
 use Rattle.mg_word.specs.Facts.{InputData}
 use Rattle.mg_word.specs.declared.memory.NoMemory.{NoMemory}
 use Rattle.mg_word.specs.declared.clause.Clause.{Clause}
-use Rattle.mg_outside.specs.Counting.{Counts, ReadsEnd, CallEnds}
+use Rattle.mg_outside.specs.Counting.{Counts}
 use Rattle.mg_outside.specs.Reading.{Table}
-use Rattle.mg_outside.specs.declared.files.ReadAnswer.TheVariants.{Done as ReadDone}
-use Rattle.cnf_reader.specs.Reading.{Reads, IsFault}
+use Rattle.mg_outside.specs.declared.files.ReadAnswer.TheVariants.{Done as ReadDone, NoMemory as ReadNoMemory}
+use Rattle.mg_outside.proofs.Ends.{none_counted, quiet_ends}
 use Rattle.cnf_reader.specs.declared.fault.ReadFault.{ReadFault}
 use Rattle.cnf_reader.specs.declared.fault.ReadFault.TheVariants.{NoMemory as NoMemoryToRead}
 use Rattle.clause_form.specs.Faults.{Stands}
 use Rattle.clause_form.specs.declared.fault.FormFault.{FormFault}
 use Rattle.clause_form.specs.declared.fault.FormFault.TheVariants.{TooHeavy, TooManyForms, NotRestricted, NoMemory as NoMemoryToForm}
-use Rattle.command_line.specs.Asking.{Request, Asks, problem_file}
-use Rattle.command_line.specs.Lines.{faulty_clause}
-use Rattle.command_line.specs.Names.{name_of}
+use Rattle.command_words.specs.Asking.{Request}
+use Rattle.command_words.specs.Requests.{seen}
+use Rattle.command_words.specs.declared.request.Request.{Request as Found}
+use Rattle.szs_report.specs.Lines.{faulty_clause}
 use Rattle.command_line.specs.Refusals.{Refusal, Unread, Unformed, TreeAbsent, TreeFailed, MemoryOut, IsRefusal, IsReportable, refusal_read, refusal_printout, memory_printout}
-use Rattle.command_line.specs.Replies.{Reply, Usage, Answered, Refused, Answer, IsAnswer, Replies, answer_printout, printout_of, reply_name, request_of}
-use Rattle.command_line.specs.Requests.{AsksFor, AsksNothing, seen}
+use Rattle.command_line.specs.Replies.{Reply, Usage, WordsLost, Answered, Refused, Answer, AreCounted, IsAnswer, IsReplyTo, Replies, answer_printout, printout_of, reply_name, request_of}
 use Rattle.command_line.specs.Printing.{Prints}
 use Rattle.command_line.specs.Runs.{Outside, Runs}
-use Rattle.command_line.specs.declared.request.Request.{Request as Found}
+use Rattle.command_line.specs.Sources.{Source, OfFile, OfSample, IsFaultOf, IsInputOf, source_name}
+use Rattle.command_line.specs.Wanted.{AsksNone, AsksOne, source_of}
 use Rattle.command_line.specs.declared.printout.Printout.{Printout}
 
 -- a fault of reading refuses the input of whatever command
-pub unread_refusal : (told : Option Table) (file : List ℕ) (fault : ReadFault) → IsFault told file None fault → fault ≢ NoMemoryToRead → (request : Request) → problem_file request ≡ file → IsRefusal request told (Unread fault)
-unread_refusal told file fault stands some request is = record { stands = subst (λ name. IsFault told name None fault) (sym is) stands; some = some }
+pub unread_refusal : (told : Option Table) (source : Source) (fault : ReadFault) → IsFaultOf told source fault → fault ≢ NoMemoryToRead → (request : Request) → source_of request ≡ source → IsRefusal request told (Unread fault)
+unread_refusal told source fault stands some request is = record { stands = subst (λ one. IsFaultOf told one fault) (sym is) stands; some = some }
 
 -- so does a fault of forms
-pub unformed_refusal : (told : Option Table) (file : List ℕ) (input : InputData) (fault : FormFault) → Reads told file None input → Stands input.clauses fault → fault ≢ NoMemoryToForm → (request : Request) → problem_file request ≡ file
+pub unformed_refusal : (told : Option Table) (source : Source) (input : InputData) (fault : FormFault) → IsInputOf told source input → Stands input.clauses fault → fault ≢ NoMemoryToForm → (request : Request) → source_of request ≡ source
     → IsRefusal request told (Unformed input fault)
-unformed_refusal told file input fault reads stands some request is = record { reads = subst (λ name. Reads told name None input) (sym is) reads; stands = stands; some = some }
+unformed_refusal told source input fault own stands some request is = record { is = subst (λ one. IsInputOf told one input) (sym is) own; stands = stands; some = some }
 
 -- a list that is split before one of its elements is longer than what stands before that
 within_split : {X : Type 0} (all before after : List X) (x : X) → all ≡ before ++ x ∷ after → length before < length all
@@ -54,50 +55,71 @@ refusal_reportable request told (TreeFailed tree) is = tt
 refusal_reportable request told MemoryOut is = tt
 
 -- a command that has its answer replies with it
-pub replies_answer : (request : Request) (told : Option Table) (before now : Counts) (answer : Answer request) (result : Result Printout NoMemory) → IsAnswer request told answer → ReadsEnd ReadDone before now → IfOk result (λ printout. printout ≡ answer_printout request answer)
+pub replies_answer : (request : Request) (told : Option Table) (before now : Counts) (answer : Answer request) (result : Result Printout NoMemory) → IsAnswer request told answer → AreCounted (source_of request) ReadDone before now → IfOk result (λ printout. printout ≡ answer_printout request answer)
     → Replies (Some request) told before now result
 replies_answer request told before now answer result right counted lines = record { reply = Answered request answer; to = refl; cause = right; counted = counted; lines = lines }
 
 -- one whose input is refused replies with that
-pub replies_refusal : (request : Request) (told : Option Table) (before now : Counts) (refusal : Refusal) (result : Result Printout NoMemory) → IsRefusal request told refusal → CallEnds (refusal_read refusal) before now
-    → IfOk result (λ printout. printout ≡ refusal_printout (name_of (problem_file request)) refusal) → Replies (Some request) told before now result
+pub replies_refusal : (request : Request) (told : Option Table) (before now : Counts) (refusal : Refusal) (result : Result Printout NoMemory) → IsRefusal request told refusal → AreCounted (source_of request) (refusal_read refusal) before now
+    → IfOk result (λ printout. printout ≡ refusal_printout (source_name (source_of request)) refusal) → Replies (Some request) told before now result
 replies_refusal request told before now refusal result right counted lines = record { reply = Refused request refusal; to = refl; cause = right; counted = counted; lines = lines }
+
+-- nothing is counted of reads that were not made
+nothing_counted : (source : Source) (counts : Counts) → AreCounted source ReadNoMemory counts counts
+nothing_counted (OfFile file root) counts = (ReadDone, quiet_ends counts counts (none_counted counts))
+nothing_counted (OfSample size) counts = refl
+
+-- a command may find no memory before its first read
+pub replies_memory : (request : Request) (told : Option Table) (counts : Counts) (none : NoMemory) → Replies (Some request) told counts counts (Err none)
+replies_memory request told counts none = record { reply = Refused request MemoryOut; to = refl; cause = tt; counted = nothing_counted (source_of request) counts; lines = tt }
 
 -- words that ask for nothing are answered by the usage
 pub replies_usage : (told : Option Table) (counts : Counts) (result : Result Printout NoMemory) → IfOk result (λ printout. printout ≡ printout_of Usage) → Replies None told counts counts result
 replies_usage told counts result lines = record { reply = Usage; to = refl; cause = tt; counted = refl; lines = lines }
 
 -- what words ask for is what the program reads off them
-pub asks_seen : (words : List (List ℕ)) (found : Option Found) → MatchOption found (AsksNothing words) (AsksFor words) → MatchOption (option_map seen found) (AsksNothing words) (Asks words)
+pub asks_seen : (words : List (List ℕ)) (found : Option Found) → MatchOption found (AsksNone words) (λ request. AsksOne words (seen request)) → MatchOption (option_map seen found) (AsksNone words) (AsksOne words)
 asks_seen words None asks = asks
 asks_seen words (Some request) asks = asks
 
-pub names_seen : (found : Option Found) → option_map (λ one. name_of (problem_file (seen one))) found ≡ option_map (λ request. name_of (problem_file request)) (option_map seen found)
+pub names_seen : (found : Option Found) → option_map (λ one. source_name (source_of (seen one))) found ≡ option_map (λ request. source_name (source_of request)) (option_map seen found)
 names_seen None = refl
 names_seen (Some request) = refl
 
-name_of_request : (reply : Reply) → option_map (λ request. name_of (problem_file request)) (request_of reply) ≡ reply_name reply
+name_of_request : (reply : Reply) → option_map (λ request. source_name (source_of request)) (request_of reply) ≡ reply_name reply
 name_of_request Usage = refl
+name_of_request WordsLost = refl
 name_of_request (Answered request answer) = refl
 name_of_request (Refused request refusal) = refl
 
+-- a reply to what was read off the words is one to the words
+reply_to : (words : List (List ℕ)) (reply : Reply) → MatchOption (request_of reply) (AsksNone words) (AsksOne words) → IsReplyTo words reply
+reply_to words Usage asks = asks
+reply_to words WordsLost asks = tt
+reply_to words (Answered request answer) asks = asks
+reply_to words (Refused request refusal) asks = asks
+
+-- words that were not read, for want of memory
+pub lost_run : (words : List (List ℕ)) (before now : Outside) (status : ℕ) → now.counts ≡ before.counts → Prints (memory_printout None) before.out now.out before.err now.err status → Runs words before now status
+lost_run words before now status counted prints = record { reply = WordsLost; to = tt; cause = tt; counted = counted; printed = inl prints }
+
 -- a reply that was printed is a run
-pub run : (words : List (List ℕ)) (wanted : Option Request) (before now : Outside) (result : Result Printout NoMemory) (name : Option (List ℕ)) (status : ℕ) → MatchOption wanted (AsksNothing words) (Asks words)
-    → Replies wanted before.told before.counts now.counts result → name ≡ option_map (λ request. name_of (problem_file request)) wanted
+pub run : (words : List (List ℕ)) (wanted : Option Request) (before now : Outside) (result : Result Printout NoMemory) (name : Option (List ℕ)) (status : ℕ) → MatchOption wanted (AsksNone words) (AsksOne words)
+    → Replies wanted before.told before.counts now.counts result → name ≡ option_map (λ request. source_name (source_of request)) wanted
     → MatchResult result (λ printout. Prints printout before.out now.out before.err now.err status) (λ none. Prints (memory_printout name) before.out now.out before.err now.err status)
     → Runs words before now status
 run words wanted before now (Ok printout) name status asks replies named prints = record {
   reply = replies.reply;
-  to = subst (λ one. MatchOption one (AsksNothing words) (Asks words)) (sym replies.to) asks;
+  to = reply_to words replies.reply (subst (λ one. MatchOption one (AsksNone words) (AsksOne words)) (sym replies.to) asks);
   cause = replies.cause;
   counted = replies.counted;
   printed = inl (subst (λ one. Prints one before.out now.out before.err now.err status) replies.lines prints);
 }
 run words wanted before now (Err none) name status asks replies named prints =
-    let names : name ≡ reply_name replies.reply = named ∙ ap (option_map (λ request. name_of (problem_file request))) (sym replies.to) ∙ name_of_request replies.reply in
+    let names : name ≡ reply_name replies.reply = named ∙ ap (option_map (λ request. source_name (source_of request))) (sym replies.to) ∙ name_of_request replies.reply in
     record {
       reply = replies.reply;
-      to = subst (λ one. MatchOption one (AsksNothing words) (Asks words)) (sym replies.to) asks;
+      to = reply_to words replies.reply (subst (λ one. MatchOption one (AsksNone words) (AsksOne words)) (sym replies.to) asks);
       cause = replies.cause;
       counted = replies.counted;
       printed = inr (subst (λ one. Prints (memory_printout one) before.out now.out before.err now.err status) names prints);

@@ -41,7 +41,7 @@ use Rattle.tree_checker.specs.declared.doc.Doc.{Doc}
 use Rattle.tree_checker.proofs.Refuting.{Accepts-refutes}
 use Rattle.board_tree.specs.Documents.{doc_of}
 use Rattle.command_line.specs.Searched.{EndsWith, IsAtEnd, IsFound, IsGivenUp, IsRefuted, IsRun, IsSatisfied, IsSearched, end_of, search_of}
-use Rattle.command_line.specs.ProveLines.{HasLines}
+use Rattle.command_line.specs.Proves.{HasLines}
 use Rattle.command_line.specs.declared.finding.Finding.{Finding}
 use Rattle.command_line.specs.declared.finding.Finding.TheVariants.{Unsatisfiable, Satisfiable, GaveUp}
 

@@ -1,5 +1,5 @@
 -- The answers of a check: when each is right, its lines and its status.
-use Rattle.std.specs.Prelude.{◌≡◌, ℕ, List, [], ◌∷◌, Option, Some, IfSome}
+use Rattle.std.specs.Prelude.{◌≡◌, ℕ, List, [], Option, Some, IfSome}
 use Rattle.mg_word.specs.Facts.{ProblemData}
 use Rattle.mg_outside.specs.Reading.{Table}
 use Rattle.mg_meaning.specs.Refuting.{Refutes}
@@ -12,13 +12,14 @@ use Rattle.tree_checker.specs.declared.doc_fault.DocKind.{DocKind}
 use Rattle.tree_checker.specs.declared.doc_fault.DocFault.TheVariants.{Line as FaultyLine}
 use Rattle.proof_tree.specs.DocText.{IsDocText}
 use Rattle.proof_tree.specs.FirstFaults.{IsDocFault}
-use Rattle.command_line.specs.Lines.{accepted_lines, rejected_line, why_words, kind_words}
 use Rattle.command_line.specs.Problems.{IsProblemOf}
+use Rattle.command_line.specs.Sources.{Source}
 use Rattle.command_line.specs.declared.printout.Printout.{Printout}
 use Rattle.command_line.specs.declared.status.Status.{Status}
 use Rattle.command_line.specs.declared.status.Status.TheVariants.{Done as DoneStatus, Rejected as RejectedStatus}
-use Rattle.command_line.specs.declared.szs_report.check.CheckAnswer.{CheckAnswer}
-use Rattle.command_line.specs.declared.szs_report.check.CheckAnswer.TheVariants.{Accepted, Rejected, Unread}
+use Rattle.szs_report.specs.CheckLines.{check_lines}
+use Rattle.szs_report.specs.declared.check.CheckAnswer.{CheckAnswer}
+use Rattle.szs_report.specs.declared.check.CheckAnswer.TheVariants.{Accepted, Rejected, Unread}
 
 -- the text is that of a document that is accepted: no list of atoms makes all its instances true
 pub record IsAccepted (problem : ProblemData) (text : List ℕ) : Type 0 where
@@ -50,18 +51,13 @@ IsJudged problem text (Unread line kind) = IsUnread problem text line kind
 abbrev pub Holds : Option Table → List ℕ → List ℕ → Type 0
 Holds told name bytes = IfSome told (λ files. files name ≡ Some bytes)
 
--- the answer is right for the problem of the one file and the text of the other
-pub record IsChecked (told : Option Table) (file tree : List ℕ) (answer : CheckAnswer) : Type 0 where
+-- the answer is right for the problem of the source and the text of the file
+pub record IsChecked (told : Option Table) (source : Source) (tree : List ℕ) (answer : CheckAnswer) : Type 0 where
   pub problem : ProblemData
-  pub is : IsProblemOf told file problem
+  pub is : IsProblemOf told source problem
   pub text : List ℕ
   pub there : Holds told tree text
   pub judged : IsJudged problem text answer
-
-abbrev pub check_lines : List ℕ → CheckAnswer → List (List ℕ)
-check_lines name Accepted = accepted_lines name
-check_lines name (Rejected line why) = rejected_line line (why_words why) ∷ []
-check_lines name (Unread line kind) = rejected_line line (kind_words kind) ∷ []
 
 abbrev pub check_status : CheckAnswer → Status
 check_status Accepted = DoneStatus

@@ -1,14 +1,10 @@
--- Lines, and how they are put.
-use Rattle.std.specs.Prelude.{◌≡◌, ℕ, List, ◌⊎◌}
-use Rattle.std.specs.List.{flat_map}
+-- How lines are put.
+use Rattle.std.specs.Prelude.{◌≡◌, ℕ, ◌⊎◌}
 use Rattle.mg_outside.specs.Putting.{SinkSeen, AllPut, PutFailed}
+use Rattle.szs_report.specs.Printing.{text_of}
 use Rattle.command_line.specs.declared.printout.Printout.{Printout}
 use Rattle.command_line.specs.Statuses.{code}
 use Rattle.command_line.specs.declared.status.Status.TheVariants.{Failed}
-
--- the bytes of lines, one after the other
-abbrev pub text_of : List (List ℕ) → List ℕ
-text_of lines = flat_map (λ line. line) lines
 
 -- the lines for the output and the messages were put, and the status is the printout's
 pub record IsWhole (printout : Printout) (out out' err err' : SinkSeen) (status : ℕ) : Type 0 where

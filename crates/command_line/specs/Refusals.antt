@@ -4,17 +4,19 @@ use Rattle.mg_word.specs.Facts.{InputData, ProblemData}
 use Rattle.mg_outside.specs.Reading.{Table, IsAbsent}
 use Rattle.mg_outside.specs.declared.files.ReadAnswer.{ReadAnswer}
 use Rattle.mg_outside.specs.declared.files.ReadAnswer.TheVariants.{Done as ReadDone, Absent as ReadAbsent, Failed as ReadFailed, NoMemory as ReadNoMemory}
-use Rattle.cnf_reader.specs.Reading.{Reads, IsFault, last_read}
+use Rattle.cnf_reader.specs.Reading.{last_read}
 use Rattle.cnf_reader.specs.declared.fault.ReadFault.{ReadFault}
 use Rattle.cnf_reader.specs.declared.fault.ReadFault.TheVariants.{At, NoMemory as NoMemoryToRead}
 use Rattle.cnf_reader.specs.declared.fault.ReadKind.TheVariants.{Files}
 use Rattle.clause_form.specs.Faults.{Stands}
 use Rattle.clause_form.specs.declared.fault.FormFault.{FormFault}
 use Rattle.clause_form.specs.declared.fault.FormFault.TheVariants.{NoMemory as NoMemoryToForm}
-use Rattle.command_line.specs.Asking.{Request, problem_file, tree_file}
-use Rattle.command_line.specs.Lines.{status_line, read_messages, form_messages, tree_message, faulty_clause}
+use Rattle.command_words.specs.Asking.{Request}
+use Rattle.szs_report.specs.Lines.{status_line, read_messages, form_messages, tree_message, faulty_clause}
+use Rattle.szs_report.specs.Troubles.{read_out}
 use Rattle.command_line.specs.Problems.{IsProblemOf}
-use Rattle.command_line.specs.Troubles.{read_out}
+use Rattle.command_line.specs.Sources.{Source, IsFaultOf, IsInputOf}
+use Rattle.command_line.specs.Wanted.{source_of, tree_file}
 use Rattle.command_line.specs.declared.status.Status.{Status}
 use Rattle.command_line.specs.declared.status.Status.TheVariants.{Refused as RefusedStatus, Failed as FailedStatus, MemoryOut as MemoryStatus}
 use Rattle.command_line.specs.declared.printout.Printout.{Printout}
@@ -42,13 +44,13 @@ seen (HeldFailed tree) = TreeFailed tree.now
 seen HeldMemoryOut = MemoryOut
 
 -- the first fault of reading stands there
-pub record IsUnread (told : Option Table) (file : List ℕ) (fault : ReadFault) : Type 0 where
-  pub stands : IsFault told file None fault
+pub record IsUnread (told : Option Table) (source : Source) (fault : ReadFault) : Type 0 where
+  pub stands : IsFaultOf told source fault
   pub some : fault ≢ NoMemoryToRead
 
--- the file reads as the input, and the fault is the first of its forms
-pub record IsUnformed (told : Option Table) (file : List ℕ) (input : InputData) (fault : FormFault) : Type 0 where
-  pub reads : Reads told file None input
+-- this is the input, and the fault is the first of its forms
+pub record IsUnformed (told : Option Table) (source : Source) (input : InputData) (fault : FormFault) : Type 0 where
+  pub is : IsInputOf told source input
   pub stands : Stands input.clauses fault
   pub some : fault ≢ NoMemoryToForm
 
@@ -56,12 +58,12 @@ pub record IsUnformed (told : Option Table) (file : List ℕ) (input : InputData
 pub record IsWanted (request : Request) (told : Option Table) (tree : List ℕ) : Type 0 where
   pub named : tree_file request ≡ Some tree
   pub problem : ProblemData
-  pub is : IsProblemOf told (problem_file request) problem
+  pub is : IsProblemOf told (source_of request) problem
 
 -- what stands behind each refusal; want of memory alone has no cause, and a failed read has it in the counts
 abbrev pub IsRefusal : Request → Option Table → Refusal → Type 0
-IsRefusal request told (Unread fault) = IsUnread told (problem_file request) fault
-IsRefusal request told (Unformed input fault) = IsUnformed told (problem_file request) input fault
+IsRefusal request told (Unread fault) = IsUnread told (source_of request) fault
+IsRefusal request told (Unformed input fault) = IsUnformed told (source_of request) input fault
 IsRefusal request told (TreeAbsent tree) = IsWanted request told tree × IsAbsent told tree
 IsRefusal request told (TreeFailed tree) = IsWanted request told tree
 IsRefusal request told MemoryOut = Unit {0}

@@ -27,11 +27,6 @@ use Rattle.tree_checker.specs.Instances.{instances_of}
 use Rattle.tree_checker.specs.declared.doc.Doc.{Doc}
 use Rattle.command_line.specs.declared.finding.Finding.{Finding}
 use Rattle.command_line.specs.declared.finding.Finding.TheVariants.{Unsatisfiable, Satisfiable, GaveUp}
-use Rattle.command_line.specs.declared.finding.TheConstants.{DEFAULT_BUDGET, DEFAULT_WEIGHT}
-
--- how far a search goes where the words do not say so
-abbrev pub default_limits : Limits
-default_limits = record { budget = DEFAULT_BUDGET; weight = DEFAULT_WEIGHT }
 
 -- a board may have these limits
 pub record AreAllowed (limits : Limits) : Type 0 where

@@ -1,21 +1,23 @@
 //! The command `check`: whether a tree is a proof that a problem is unsatisfiable.
 
 ghost use Rattle.std.specs.Prelude.{◌≡◌, Some, IfOk, MatchResult};
+ghost use Rattle.std.specs.Option.{option_map};
 ghost use Rattle.mg_outside.specs.Counting.{CallEnds};
-ghost use Rattle.command_line.specs.Asking.{Check};
+ghost use Rattle.command_words.specs.Asking.{Check};
 ghost use Rattle.command_line.specs.Checks.{IsChecked, IsJudged, check_printout, check_status};
 ghost use Rattle.command_line.specs.Refusals.{IsRefusal, result_read, seen};
 ghost use Rattle.command_line.specs.Replies.{Replies};
+ghost use Rattle.command_line.specs.Sources.{OfFile};
 
 use crate::printout::Printout;
 use crate::problem::problem_of;
 use crate::refusal::{Refusal, print_refusal};
 use crate::status::Status;
-use crate::szs_report::{CheckAnswer, report_check, szs_name};
 use mg_outside::{Files, ReadAnswer};
 use mg_word::{NoMemory, Problem};
 use proof_tree::read_doc;
 use std::alloc::Global;
+use szs_report::{CheckAnswer, report_check, szs_name};
 use tree_checker::{DocFault, Reject, check_doc};
 
 // Whether the text is that of a document that is accepted.
@@ -40,14 +42,15 @@ fn answer<'a, F: Files>(
     files: &mut F,
     file: &str,
     tree: &'a str,
+    root: Option<&str>,
 ) -> Result<CheckAnswer, Refusal<'a>>
     ensures same { F.table files.new ≡ F.table files.old }
     ensures counted { CallEnds (result_read result) (F.counts files.old) (F.counts files.new) }
     ensures cause { MatchResult result
-        (IsChecked (F.table files.old) file.now tree.now)
-        (λ refusal. IsRefusal (Check file.now tree.now) (F.table files.old) (seen refusal)) }
+        (IsChecked (F.table files.old) (OfFile file.now (option_map (λ folder. folder.now) root.entry)) tree.now)
+        (λ refusal. IsRefusal (Check file.now tree.now (option_map (λ folder. folder.now) root.entry)) (F.table files.old) (seen refusal)) }
 {
-    let problem = match problem_of(alloc, files, file) {
+    let problem = match problem_of(alloc, files, file, root) {
         Ok(problem) => problem,
         Err(refusal) => return Err(refusal),
     };
@@ -88,12 +91,13 @@ pub fn run_check<F: Files>(
     files: &mut F,
     file: &str,
     tree: &str,
+    root: Option<&str>,
 ) -> Result<Printout, NoMemory>
     ensures same { F.table files.new ≡ F.table files.old }
-    ensures replies { Replies (Some (Check file.now tree.now)) (F.table files.old) (F.counts files.old) (F.counts files.new) result }
+    ensures replies { Replies (Some (Check file.now tree.now (option_map (λ folder. folder.now) root.entry))) (F.table files.old) (F.counts files.old) (F.counts files.new) result }
 {
     let name = szs_name(file);
-    match answer(alloc, files, file, tree) {
+    match answer(alloc, files, file, tree, root) {
         Ok(answer) => print(alloc, name, answer),
         Err(refusal) => print_refusal(alloc, name, &refusal),
     }

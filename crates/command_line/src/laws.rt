@@ -2,16 +2,14 @@
 
 ghost use Rattle.std.specs.Prelude.{◌≡◌, ◌≢◌, ℕ, List, Some};
 ghost use Rattle.mg_outside.specs.Reading.{Table};
-ghost use Rattle.command_line.specs.Asking.{Request, Asks};
 ghost use Rattle.command_line.specs.PrintLaws.{ProofsAreAccepted};
 ghost use Rattle.command_line.specs.Replies.{Reply, IsRightReply};
 ghost use Rattle.command_line.specs.Runs.{AreDetermined};
 
-/// Words ask for one command at most. Where files are told and determine the answer, no read failed and memory was
-/// enough, one reply to the words has its cause.
+/// Where files are told and determine the answer, no read failed and memory was enough, one reply to the words has its
+/// cause.
 pub fn one_reply()
-    ensures requests { (words : List (List ℕ)) (a b : Request) → Asks words a → Asks words b → a ≡ b }
-    ensures replies { (words : List (List ℕ)) (files : Table) → AreDetermined words files → (a b : Reply) → IsRightReply words files a → IsRightReply words files b → a ≡ b }
+    ensures { (words : List (List ℕ)) (files : Table) → AreDetermined words files → (a b : Reply) → IsRightReply words files a → IsRightReply words files b → a ≡ b }
 {}
 
 /// All that is printed of a proof, put into a file, is a tree that is accepted, where no line feed is in the problem's name.

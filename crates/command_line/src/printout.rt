@@ -3,8 +3,8 @@
 ghost use Rattle.std.specs.Prelude.{◌≡◌, []};
 
 use crate::status::Status;
-use crate::szs_report::{FaultReport, Report};
 use std::alloc::Global;
+use szs_report::{FaultReport, Report};
 
 /// The lines for the output, those for the messages, and the status.
 #[derive(Debug, Drop)]

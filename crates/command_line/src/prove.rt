@@ -3,39 +3,31 @@
 ghost use Rattle.std.specs.Prelude.{◌≡◌, Some, IfOk, MatchResult};
 ghost use Rattle.mg_outside.specs.Counting.{CallEnds};
 ghost use Rattle.mg_word.specs.Facts.{IsProblem};
-ghost use Rattle.command_line.specs.Asking.{Prove};
+ghost use Rattle.command_words.specs.Asking.{Prove};
+ghost use Rattle.command_words.specs.Requests.{search_seen};
 ghost use Rattle.command_line.specs.Outcomes.{proved_by};
-ghost use Rattle.command_line.specs.ProveLines.{HasLines, finding_lines, finding_status};
-ghost use Rattle.command_line.specs.Proves.{IsProved, prove_printout};
+ghost use Rattle.command_line.specs.Proves.{HasLines, IsProved, finding_lines, finding_status, prove_printout};
 ghost use Rattle.command_line.specs.Refusals.{IsRefusal, result_read, seen};
 ghost use Rattle.command_line.specs.Replies.{Replies};
-ghost use Rattle.command_line.specs.Searched.{AreAllowed, EndsWith, IsAtEnd, IsFound, IsRefuted, IsRun, IsSatisfied, default_limits, end_of};
+ghost use Rattle.command_line.specs.Searched.{AreAllowed, EndsWith, IsAtEnd, IsFound, IsRefuted, IsRun, IsSatisfied, end_of};
+ghost use Rattle.command_line.specs.Wanted.{search_limits, searched_file};
 
-use crate::finding::{DEFAULT_BUDGET, DEFAULT_WEIGHT, Finding};
+use crate::finding::Finding;
 use crate::printout::Printout;
 use crate::problem::problem_of;
 use crate::refusal::{Refusal, print_refusal};
 use crate::status::Status;
-use crate::szs_report::{ProveAnswer, Report, report_prove, szs_name};
+use crate::wanted::search_limits;
 use board_tree::{TreeRefusal, tree_of};
+use command_words::Search;
 use mg_outside::Files;
 use mg_word::{LitSet, NoMemory, Problem};
 use proof_tree::write_doc;
 use std::alloc::Global;
 use std::sync::Arc;
+use szs_report::{ProveAnswer, Report, report_prove, szs_name};
 use tree_board::{Board, BoardState, Limits, Mode, finish_alone};
 use tree_checker::Doc;
-
-// How far a search goes where the words do not say so.
-fn default_limits() -> Limits
-    ensures value { result ≡ default_limits }
-    ensures allowed { AreAllowed result }
-{
-    Limits {
-        budget: DEFAULT_BUDGET,
-        weight: DEFAULT_WEIGHT,
-    }
-}
 
 // The search for the problem, gone on to its end by one worker.
 fn searched(alloc: Global, problem: Problem, limits: Limits) -> Result<Board, NoMemory>
@@ -94,7 +86,7 @@ struct Outcome {
 }
 
 // The search for the problem, and what it ends with.
-fn search(alloc: Global, problem: Problem, limits: Limits) -> Result<Outcome, NoMemory>
+fn find(alloc: Global, problem: Problem, limits: Limits) -> Result<Outcome, NoMemory>
     requires real { IsProblem problem }
     requires allowed { AreAllowed limits }
     ensures run { IfOk result (λ outcome. IsRun problem limits outcome.board) }
@@ -109,21 +101,20 @@ fn search(alloc: Global, problem: Problem, limits: Limits) -> Result<Outcome, No
 fn answer<'a, F: Files>(
     alloc: Global,
     files: &mut F,
-    file: &str,
-    limits: Limits,
+    search: &Search<'_>,
 ) -> Result<Outcome, Refusal<'a>>
-    requires { AreAllowed limits }
+    requires { AreAllowed (search_limits (search_seen search.now)) }
     ensures same { F.table files.new ≡ F.table files.old }
     ensures counted { CallEnds (result_read result) (F.counts files.old) (F.counts files.new) }
     ensures cause { MatchResult result
-        (λ outcome. IsProved (F.table files.old) file.now limits (proved_by outcome))
-        (λ refusal. IsRefusal (Prove file.now) (F.table files.old) (seen refusal)) }
+        (λ outcome. IsProved (F.table files.old) (searched_file (search_seen search.now)) (search_limits (search_seen search.now)) (proved_by outcome))
+        (λ refusal. IsRefusal (Prove (search_seen search.now)) (F.table files.old) (seen refusal)) }
 {
-    let problem = match problem_of(alloc, files, file) {
+    let problem = match problem_of(alloc, files, search.file, search.root) {
         Ok(problem) => problem,
         Err(refusal) => return Err(refusal),
     };
-    match search(alloc, problem, limits) {
+    match find(alloc, problem, search_limits(search)) {
         Ok(outcome) => Ok(outcome),
         Err(_) => Err(Refusal::MemoryOut),
     }
@@ -177,14 +168,18 @@ fn print(alloc: Global, name: &str, limits: Limits, outcome: &Outcome) -> Result
 
 /// Searches for a proof that the problem in the file is unsatisfiable, or for a set that satisfies it, and answers what is
 /// to be printed.
-pub fn run_prove<F: Files>(alloc: Global, files: &mut F, file: &str) -> Result<Printout, NoMemory>
+pub fn run_prove<F: Files>(
+    alloc: Global,
+    files: &mut F,
+    search: &Search<'_>,
+) -> Result<Printout, NoMemory>
+    requires { AreAllowed (search_limits (search_seen search.now)) }
     ensures same { F.table files.new ≡ F.table files.old }
-    ensures replies { Replies (Some (Prove file.now)) (F.table files.old) (F.counts files.old) (F.counts files.new) result }
+    ensures replies { Replies (Some (Prove (search_seen search.now))) (F.table files.old) (F.counts files.old) (F.counts files.new) result }
 {
-    let name = szs_name(file);
-    let limits = default_limits();
-    match answer(alloc, files, file, limits) {
-        Ok(outcome) => print(alloc, name, limits, &outcome),
+    let name = szs_name(search.file);
+    match answer(alloc, files, search) {
+        Ok(outcome) => print(alloc, name, search_limits(search), &outcome),
         Err(refusal) => print_refusal(alloc, name, &refusal),
     }
 }

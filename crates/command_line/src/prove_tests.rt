@@ -145,6 +145,74 @@ fn a_term_that_doubles_gives_up(rt: HostRuntime) -> Result<(), Fail> {
     )
 }
 
+/// A problem whose search never ends.
+const ENDLESS: &str = "cnf(c1,axiom,p(a)).\ncnf(c2,axiom,~p(X)|p(f(X))).\n";
+
+#[test]
+fn limits_of_prove(rt: HostRuntime) -> Result<(), Fail> {
+    let alloc = rt.alloc();
+    for (option, reason) in [
+        ("--budget=3", "budget 3"),
+        ("--weight=3", "weight 3"),
+        ("--budget=0", "budget 0"),
+    ] {
+        let text = format!(in alloc; "% SZS status GaveUp for r8\n% Reason: {reason}\n")?;
+        check(
+            &rt,
+            alloc,
+            &["prove", "r8.p", option],
+            &[("r8.p", ENDLESS)],
+            (1, text.as_str(), ""),
+        )?;
+    }
+    let text = proof_text(alloc, "root\nform 1 []\n")?;
+    check(
+        &rt,
+        alloc,
+        &["prove", "--budget", "0", "r.p"],
+        &[("r.p", "cnf(c1,axiom,$false).\n")],
+        (0, text.as_str(), ""),
+    )
+}
+
+#[test]
+fn includes_under_a_root(rt: HostRuntime) -> Result<(), Fail> {
+    let alloc = rt.alloc();
+    let listed = [
+        ("dir/m.p", "include('Axioms/X.ax',[one]).\n"),
+        ("lib/Axioms/X.ax", "cnf(one,axiom,p).\ncnf(two,axiom,~p).\n"),
+        ("t", "mgtp tree 1\nroot\nform 1 []\n"),
+    ];
+    let set =
+        "% SZS status Satisfiable for m\n% SZS output start Model for m\nmodel 1: p\n% SZS output end Model for m\n";
+    for (words, status, out) in [
+        (&["prove", "dir/m.p", "--root", "lib"][..], 0, set),
+        (
+            &["forms", "--root=lib", "dir/m.p"][..],
+            0,
+            "form 1 one: -> p\n% Forms: 1\n",
+        ),
+        (
+            &["check", "dir/m.p", "--root", "lib/", "t"][..],
+            1,
+            "% Tree rejected at line 4: early end\n",
+        ),
+    ] {
+        check(&rt, alloc, words, &listed, (status, out, ""))?;
+    }
+    check(
+        &rt,
+        alloc,
+        &["prove", "dir/m.p", "--root", "other"],
+        &listed,
+        (
+            2,
+            "% SZS status InputError for m\n",
+            "mgtp: dir/m.p:1:9: include file not found: Axioms/X.ax\n",
+        ),
+    )
+}
+
 #[test]
 fn words_of_prove(rt: HostRuntime) -> Result<(), Fail> {
     let alloc = rt.alloc();

@@ -5,15 +5,16 @@ ghost use Rattle.std.specs.Prelude.{◌≡◌, [], ◌∷◌, MatchResult, codes
 ghost use Rattle.std.specs.List.{flat_map};
 ghost use Rattle.std.specs.Option.{option_map};
 ghost use Rattle.mg_outside.specs.Putting.{Puts};
-ghost use Rattle.command_line.specs.Printing.{Prints, text_of};
+ghost use Rattle.command_line.specs.Printing.{Prints};
 ghost use Rattle.command_line.specs.Refusals.{memory_printout};
 ghost use Rattle.command_line.specs.Statuses.{code};
+ghost use Rattle.szs_report.specs.Printing.{text_of};
 
 use crate::printout::Printout;
 use crate::status::Status;
-use crate::szs_report::put_report;
 use mg_outside::{PutAnswer, Sink};
 use mg_word::NoMemory;
+use szs_report::put_report;
 
 // Puts one piece after the other. At the first failure it stops.
 fn put_pieces<O: Sink>(pieces: &[&[u8]], sink: &mut O) -> PutAnswer

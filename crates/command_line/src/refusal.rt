@@ -2,15 +2,15 @@
 
 ghost use Rattle.std.specs.Prelude.{◌≡◌, IfOk};
 ghost use Rattle.command_line.specs.Refusals.{seen, read_status, refusal_printout, IsReportable};
-ghost use Rattle.command_line.specs.Troubles.{trouble_out, trouble_err, IsTrouble};
+ghost use Rattle.szs_report.specs.Troubles.{IsTrouble, trouble_err, trouble_out};
 
 use crate::printout::Printout;
 use crate::status::Status;
-use crate::szs_report::{Trouble, report_fault};
 use clause_form::FormFault;
 use cnf_reader::{ReadFault, ReadKind};
 use mg_word::{Input, NoMemory};
 use std::alloc::Global;
+use szs_report::{Trouble, report_fault};
 
 /// Why an input is refused.
 #[derive(Drop)]

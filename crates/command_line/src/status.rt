@@ -6,9 +6,9 @@ ghost use Rattle.command_line.specs.Statuses.{code};
 /// The exit status of a run.
 #[derive(Clone, Copy, Debug, PartialEq, Eq)]
 pub enum Status {
-    /// What was asked for is there: the tree is accepted, or the forms are printed.
+    /// What was asked for is there.
     Done = 0,
-    /// The tree is rejected.
+    /// A search gave up, or the tree is rejected.
     Rejected = 1,
     /// The words ask for no command, or the input is refused.
     Refused = 2,

@@ -1,6 +1,6 @@
 //! Runs over files and sinks in memory. The expected lines are worked out by hand.
 
-use crate::top::run_alone;
+use crate::run_alone;
 use mg_outside::{FailAt, MemoryFiles, MemorySink};
 use mg_word::Text;
 use std::alloc::Global;
@@ -16,6 +16,10 @@ const GROUND_TREE: &str = "mgtp tree 1\nroot\nform 1 []\nform 2 []\nform 3 []\n"
 const TERMS: &str = "cnf(c1,axiom,p(a)).\ncnf(c2,axiom,~p(X)|q(X)).\ncnf(c3,axiom,~q(a)).\n";
 
 const TERMS_TREE: &str = "mgtp tree 1\nroot\nform 1 []\nform 2 [a]\nform 3 []\n";
+
+/// The usage.
+const USAGE: &str =
+    "usage: mgtp prove FILE [--workers N] [--budget N] [--weight N] [--root DIR]\n       mgtp models FILE [--workers N] [--budget N] [--weight N] [--root DIR]\n       mgtp check FILE TREE [--root DIR]\n       mgtp forms FILE [--root DIR]\n       mgtp sample K [--workers N] [--budget N]\n";
 
 // Files in memory with these names and texts, of which the listed reads fail.
 fn memory(alloc: Global, listed: &[(&str, &str)], failing: &[u64]) -> Result<MemoryFiles, Fail> {
@@ -273,16 +277,26 @@ fn files_that_are_absent(rt: HostRuntime) -> Result<(), Fail> {
 #[test]
 fn words_that_ask_for_no_command(rt: HostRuntime) -> Result<(), Fail> {
     let alloc = rt.alloc();
-    let refused = (2, "", "usage: mgtp COMMAND FILE\n");
     let listed = [("r.p", GROUND), ("t", GROUND_TREE)];
-    check(&rt, alloc, &[], &listed, refused)?;
-    check(&rt, alloc, &["check", "r.p"], &listed, refused)?;
-    check(&rt, alloc, &["check", "r.p", "t", "t"], &listed, refused)?;
-    check(&rt, alloc, &["check", "-x", "t"], &listed, refused)?;
-    check(&rt, alloc, &["check", "r.p", "-x"], &listed, refused)?;
-    check(&rt, alloc, &["forms", ""], &listed, refused)?;
-    check(&rt, alloc, &["Forms", "r.p"], &listed, refused)?;
-    check(&rt, alloc, &["show", "r.p"], &listed, refused)?;
+    for words in [
+        &[][..],
+        &["prove"][..],
+        &["check", "r.p"][..],
+        &["check", "r.p", "t", "t"][..],
+        &["check", "-x", "t"][..],
+        &["check", "r.p", "t", "--budget", "3"][..],
+        &["forms", ""][..],
+        &["Forms", "r.p"][..],
+        &["show", "r.p"][..],
+        &["prove", "r.p", "--budget", "01"][..],
+        &["prove", "r.p", "--workers", "0"][..],
+        &["prove", "r.p", "--workers", "2"][..],
+        &["models", "r.p", "--workers=4"][..],
+        &["sample", "21"][..],
+        &["sample", "3", "--workers", "64"][..],
+    ] {
+        check(&rt, alloc, words, &listed, (2, "", USAGE))?;
+    }
     Ok(())
 }
 

@@ -1,34 +1,40 @@
 //! The top call: from the words to the status.
 
-ghost use Rattle.std.specs.Prelude.{◌≡◌, IfOk, map, string_bytes};
+ghost use Rattle.std.specs.Prelude.{◌≡◌, IfOk, IfSome, map, string_bytes};
 ghost use Rattle.std.specs.Option.{option_map};
-ghost use Rattle.command_line.specs.Asking.{problem_file};
-ghost use Rattle.command_line.specs.Names.{name_of};
+ghost use Rattle.command_words.specs.Requests.{seen};
 ghost use Rattle.command_line.specs.Replies.{Replies, Usage, printout_of};
-ghost use Rattle.command_line.specs.Requests.{seen};
 ghost use Rattle.command_line.specs.Runs.{Runs, IsOnly, IsFailure, IsExact, outside_of};
+ghost use Rattle.command_line.specs.Sources.{source_name};
+ghost use Rattle.command_line.specs.Wanted.{IsPossible, source_of};
 
 use crate::check::run_check;
 use crate::forms::run_forms;
+use crate::models::run_models;
 use crate::printout::Printout;
 use crate::prove::run_prove;
 use crate::putting::put_result;
-use crate::request::{Request, request_of};
+use crate::sample::run_sample;
 use crate::status::Status;
-use crate::szs_report::{Trouble, report_fault, szs_name};
+use crate::wanted::asked_of_one;
+use command_words::Request;
 use mg_outside::{Files, Sink};
 use mg_word::NoMemory;
 use std::alloc::Global;
+use szs_report::{Trouble, report_fault, sample_name, szs_name};
 
 // The name of the problem that is asked for.
 fn name_of<'a>(request: &Option<Request<'a>>) -> Option<&'a str>
-    ensures { option_map (λ name. name.now) result ≡ option_map (λ wanted. name_of (problem_file (seen wanted))) request.now }
+    requires { IfSome request.now (λ wanted. IsPossible (seen wanted)) }
+    ensures { option_map (λ name. name.now) result ≡ option_map (λ wanted. source_name (source_of (seen wanted))) request.now }
 {
     match request {
         None => None,
-        Some(Request::Prove { file } | Request::Check { file, .. } | Request::Forms { file }) => {
-            Some(szs_name(file))
-        }
+        Some(Request::Prove(search)) => Some(szs_name(search.file)),
+        Some(Request::Models(search)) => Some(szs_name(search.file)),
+        Some(Request::Check { file, .. }) => Some(szs_name(file)),
+        Some(Request::Forms { file, .. }) => Some(szs_name(file)),
+        Some(Request::Sample { size, .. }) => Some(sample_name(*size)),
     }
 }
 
@@ -46,18 +52,22 @@ fn reply<F: Files>(
     files: &mut F,
     request: &Option<Request<'_>>,
 ) -> Result<Printout, NoMemory>
+    requires { IfSome request.now (λ wanted. IsPossible (seen wanted)) }
     ensures same { F.table files.new ≡ F.table files.old }
     ensures replies { Replies (option_map seen request.now) (F.table files.old) (F.counts files.old) (F.counts files.new) result }
 {
     match request {
         None => usage(alloc),
-        Some(Request::Prove { file }) => run_prove(alloc, files, file),
-        Some(Request::Check { file, tree }) => run_check(alloc, files, file, tree),
-        Some(Request::Forms { file }) => run_forms(alloc, files, file),
+        Some(Request::Prove(search)) => run_prove(alloc, files, search),
+        Some(Request::Models(search)) => run_models(alloc, files, search),
+        Some(Request::Check { file, tree, root }) => run_check(alloc, files, file, tree, *root),
+        Some(Request::Forms { file, root }) => run_forms(alloc, files, file, *root),
+        Some(Request::Sample { size, budget, .. }) => run_sample(alloc, *size, *budget),
     }
 }
 
-/// Does what the words after the program's name ask for, and answers the number of the exit status.
+/// Does what the words after the program's name ask for, and answers the number of the exit status. One
+/// worker does it: words that ask for more get the usage.
 pub fn run_alone<F: Files, O: Sink, E: Sink>(
     alloc: Global,
     words: &[String],
@@ -83,7 +93,9 @@ pub fn run_alone<F: Files, O: Sink, E: Sink>(
         (outside_of F.table F.counts O.seen E.seen files.new out.new err.new)
         result }
 {
-    let request = request_of(words);
+    let Ok(request) = asked_of_one(alloc, words) else {
+        return put_result(None, &Err(NoMemory), out, err).code();
+    };
     let outcome = reply(alloc, files, &request);
     put_result(name_of(&request), &outcome, out, err).code()
 }

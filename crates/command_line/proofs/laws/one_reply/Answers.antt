@@ -1,6 +1,6 @@
--- The laws are lemmas.
-use Rattle.command_line.proofs.OneReply.{one_request, one_reply as one_reply_of}
+-- The law is a lemma.
+use Rattle.command_line.proofs.OneReply.{one_reply as one_reply_of}
 use Rattle.command_line.proofs.laws.one_reply.Goals as goal
 
 pub returns : goal.returns
-returns c = record { requests = one_request; replies = λ words files. one_reply_of files words }
+returns c = λ words files. one_reply_of files words

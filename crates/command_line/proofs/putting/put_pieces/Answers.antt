@@ -1,6 +1,6 @@
 use Rattle.std.proofs.Common.{drop, ◌+◌, take, []}
 use Rattle.std.specs.List.{flat_map}
-use Rattle.command_line.proofs.Gaining.{PutFailed-append, flat_map-split}
+use Rattle.szs_report.proofs.Gaining.{PutFailed-append, flat_map-split}
 use Rattle.command_line.proofs.putting.put_pieces.Goals as goal
 
 pub returns-in-Failed : goal.returns-in-Failed

@@ -1,28 +1,8 @@
 //! `mgtp`, a verified model generation theorem prover: the command line over real files and streams.
 #![tactic(auto)]
 
-mod check;
-mod finding;
-mod forms;
-mod laws;
-mod printout;
-mod problem;
-mod prove;
-#[cfg(test)]
-mod prove_tests;
-mod putting;
-mod refusal;
-#[cfg(test)]
-mod report_tests;
-mod request;
-mod status;
-mod szs_report;
-#[cfg(test)]
-mod tests;
-mod top;
-
+use command_line::{Status, run_alone};
 use mg_outside::{StdFiles, StdSink};
-use status::Status;
 use std::alloc::AllocError;
 use std::process::ExitCode;
 use std::{env, io};
@@ -43,5 +23,5 @@ fn main(rt: HostRuntime) -> ExitCode {
     let mut files = StdFiles::new(&rt);
     let mut out = StdSink::new(rt.stdout());
     let mut err = StdSink::new(rt.stderr());
-    ExitCode::from(top::run_alone(rt.alloc(), &words, &mut files, &mut out, &mut err))
+    ExitCode::from(run_alone(rt.alloc(), &words, &mut files, &mut out, &mut err))
 }
