@@ -1,0 +1,3 @@
+% The archive is wanted. Can it be installed?
+include('packages.p').
+cnf(wanted,hypothesis, in(archive)).

@@ -1,0 +1,2 @@
+% Everybody likes cake: refused, since nothing says who everybody is.
+cnf(everybody,axiom, likes(X,cake)).
