@@ -89,7 +89,7 @@ def sample_sets(size):
 # What is run, the line that the answer has to have, and seconds of a plain Rust program at the whole size.
 def rows(part):
     def of(size):
-        return max(size // part, 2)
+        return max(size // part, 4)
 
     def less(size):
         return size if part == 1 else max(size - part, 3)
@@ -109,7 +109,7 @@ def rows(part):
     for holes, seconds in (6, 0.021), (7, 0.15):
         yield "pigeons, %d holes" % less(holes), pigeons(less(holes)), ["prove"], "% SZS status Unsatisfiable for x", seconds
     yield "3-SAT, %d atoms" % of(60), satisfaction(of(60), of(258)), ["prove"] + many, None, 0.21
-    yield "3-colouring, %d nodes" % of(40), colouring(of(40), of(90)), ["prove"] + many, None, 0.20
+    yield "3-colouring, %d nodes" % of(40), colouring(of(40), min(of(90), of(40) * (of(40) - 1) // 2)), ["prove"] + many, None, 0.20
     yield "%d queens" % less(8), queens(less(8)), ["models"], "% Models complete: 92" if less(8) == 8 else None, 0.025
     yield "%d found, one minimal" % 2 ** less(15), one_minimal(less(15)), ["models"] + many, "% Models complete: 1", 0.16
     yield "%d minimal" % 3 ** less(9), all_minimal(less(9)), ["models"] + many, "%% Models complete: %d" % 3 ** less(9), 0.11
