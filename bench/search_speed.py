@@ -3,9 +3,9 @@
 
 Use: bench/search_speed.py PROGRAM [--part N] [--seconds S] [--only WORD]
 
-With `--part N` the problems have an N-th of their size. A run that takes longer than S seconds (60 else) is cut off. Behind the
-seconds of a problem stands, where it is known and the size is whole, the time of a plain Rust program of the same calculus on
-another machine: a mark to read the figures by, and no measurement of this run.
+With `--part N` the problems have an N-th of their size; a run with N and one with half of it show how the time grows. A run that takes
+longer than S seconds (60 else) is cut off. Behind the seconds of a problem of whole size stands the time of a plain Rust program
+of the same calculus on another machine: a mark to read the figures by, and no measurement of this run.
 """
 import argparse
 import os
