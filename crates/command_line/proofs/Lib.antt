@@ -1,4 +1,5 @@
 pub mod Asked
+pub mod Listing
 pub mod Memory
 pub mod OneFinding
 pub mod OneListing

@@ -1,10 +1,12 @@
 -- The answers of `models` and `sample`: when each is right, its lines and its status.
-use Rattle.std.specs.Prelude.{ℕ, List, [], Option, Some, None}
+use Rattle.std.specs.Prelude.{ℕ, All, IsTrue, List, [], Option, Some, None}
 use Rattle.mg_word.specs.Facts.{ProblemData}
 use Rattle.mg_word.specs.declared.lit.Lit.{Lit}
+use Rattle.mg_meaning.specs.Instances.{are_literals}
 use Rattle.mg_outside.specs.Reading.{Table}
 use Rattle.model_lister.specs.Listings.{Lists}
 use Rattle.model_lister.specs.Runs.{IsSearched, search_of}
+use Rattle.model_lister.specs.declared.listing.Listing.{Listing}
 use Rattle.szs_report.specs.ModelLines.{models_lines, sample_lines}
 use Rattle.tree_board.specs.declared.event.Event.{Event}
 use Rattle.tree_board.specs.declared.mode.Limit.{Limit}
@@ -20,6 +22,14 @@ pub record Listed : Type 0 where
   pub problem : ProblemData
   pub sets : List (List Lit)
   pub gave_up : Option Limit
+
+-- what a listing is seen as
+abbrev pub listed_by : Listing → Listed
+listed_by listing = record { problem = listing.board.problem; sets = listing.sets.items; gave_up = listing.gave_up }
+
+-- each set is one of the problem's literals, so it has a line
+abbrev pub HaveLines : Listed → Type 0
+HaveLines answer = All (λ set. IsTrue (are_literals answer.problem.symbols set)) answer.sets
 
 -- the answer is right for the problem of the source, within these limits
 pub record IsListed (told : Option Table) (source : Source) (limits : Limits) (answer : Listed) : Type 0 where

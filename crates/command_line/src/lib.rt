@@ -6,6 +6,8 @@ mod finding;
 mod forms;
 mod laws;
 mod models;
+#[cfg(test)]
+mod models_tests;
 mod printout;
 mod problem;
 mod prove;

@@ -22,7 +22,11 @@ const USAGE: &str =
     "usage: mgtp prove FILE [--workers N] [--budget N] [--weight N] [--root DIR]\n       mgtp models FILE [--workers N] [--budget N] [--weight N] [--root DIR]\n       mgtp check FILE TREE [--root DIR]\n       mgtp forms FILE [--root DIR]\n       mgtp sample K [--workers N] [--budget N]\n";
 
 // Files in memory with these names and texts, of which the listed reads fail.
-fn memory(alloc: Global, listed: &[(&str, &str)], failing: &[u64]) -> Result<MemoryFiles, Fail> {
+pub(crate) fn memory(
+    alloc: Global,
+    listed: &[(&str, &str)],
+    failing: &[u64],
+) -> Result<MemoryFiles, Fail> {
     let mut files: Vec<(Text, Vec<u8>)> = Vec::new(alloc);
     for (name, text) in listed {
         files.push((
@@ -44,7 +48,7 @@ fn sink(alloc: Global, fails: Option<(u64, u64)>) -> Result<MemorySink, Fail> {
 
 // Runs on the words, and compares the status, the output and the messages. A put of the output, or
 // of the messages, fails as `sink` says.
-fn compare(
+pub(crate) fn compare(
     rt: &impl Abort,
     alloc: Global,
     words: &[&str],
