@@ -24,3 +24,5 @@ pub const R: (bool, u32) = (false, 2);
 pub const NOT_P: (bool, u32) = (true, 0);
 
 pub const NOT_Q: (bool, u32) = (true, 1);
+
+pub const NOT_R: (bool, u32) = (true, 2);
