@@ -1,0 +1,8 @@
+mod Comings
+mod Lowering
+mod Membership
+mod NamedKeys
+mod OwnerOrder
+mod Tables
+mod Visits
+mod Watches
