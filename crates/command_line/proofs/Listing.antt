@@ -5,7 +5,8 @@ use Rattle.mg_meaning.specs.Instances.{are_literals}
 use Rattle.mg_outside.specs.Reading.{Table}
 use Rattle.mg_word.specs.Facts.{ProblemData}
 use Rattle.model_lister.specs.Listings.{IsListing, Lists}
-use Rattle.model_lister.specs.Runs.{IsSearched, search_of}
+use Rattle.model_lister.specs.Ends.{IsSearched}
+use Rattle.model_lister.specs.Runs.{search_of}
 use Rattle.model_lister.specs.declared.listing.Listing.{Listing}
 use Rattle.tree_board.specs.Searches.{Search}
 use Rattle.tree_board.specs.declared.mode.Limit.{Limit}

@@ -11,7 +11,8 @@ use Rattle.tree_board.specs.declared.mode.BoardState.{BoardState}
 use Rattle.tree_board.specs.declared.mode.BoardState.TheVariants.{Closed, Model}
 use Rattle.tree_board.specs.declared.mode.Limits.{Limits}
 use Rattle.tree_board.proofs.OneWorker.{one_worker_is_unique}
-use Rattle.command_line.specs.Searched.{EndsWith, IsFound, end_of, search_of}
+use Rattle.model_lister.specs.Ends.{end_of}
+use Rattle.command_line.specs.Searched.{EndsWith, IsFound, search_of}
 use Rattle.command_line.specs.declared.finding.Finding.{Finding}
 use Rattle.command_line.specs.declared.finding.Finding.TheVariants.{Unsatisfiable, Satisfiable, GaveUp}
 

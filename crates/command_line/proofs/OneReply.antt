@@ -33,7 +33,7 @@ use Rattle.command_line.specs.Listed.{Listed, IsListed}
 use Rattle.command_line.specs.Problems.{IsProblemOf}
 use Rattle.command_line.specs.Proves.{Proved, IsProved}
 use Rattle.command_line.specs.Refusals.{Refusal, Unread as NotRead, Unformed, TreeAbsent, TreeFailed, MemoryOut, IsRefusal, refusal_read}
-use Rattle.command_line.specs.Replies.{Reply, Usage, WordsLost, Answered, Refused, Answer, IsAnswer, IsRightReply}
+use Rattle.command_line.specs.Replies.{Reply, Usage, Answered, Refused, Answer, IsAnswer, IsRightReply}
 use Rattle.command_line.specs.Runs.{AreDetermined, Fits, IsDetermined}
 use Rattle.command_line.specs.Searched.{IsFound, search_of}
 use Rattle.command_line.specs.Sources.{Source, OfFile, OfSample, IsFaultOf, IsInputOf}
@@ -209,14 +209,8 @@ module _ (files : Table) where
       let own = answered_problem request answer right in
       refused_not request own.0 refusal own.1 (tree_there request answer right) other
 
-  -- memory is not enough for a reply to words that were not read
-  lost : ReadNoMemory ≢ ReadNoMemory → ⊥
-  lost enough = enough refl
-
   -- one reply to the words is right
   pub one_reply : (words : List (List ℕ)) → AreDetermined words files → (a b : Reply) → IsRightReply words files a → IsRightReply words files b → a ≡ b
-  one_reply words determined WordsLost b p q = absurd (lost p.enough)
-  one_reply words determined a WordsLost p q = absurd (lost q.enough)
   one_reply words determined Usage Usage p q = refl
   one_reply words determined Usage (Answered request answer) p q = absurd (p.to request q.to)
   one_reply words determined Usage (Refused request refusal) p q = absurd (p.to request q.to)

@@ -26,8 +26,8 @@ use Rattle.command_line.specs.Printing.{Prints, IsWhole}
 use Rattle.command_line.specs.Problems.{IsProblemOf}
 use Rattle.command_line.specs.Proves.{Proved, IsProved, finding_status, prove_printout}
 use Rattle.command_line.specs.Refusals.{Refusal, Unread, Unformed, TreeAbsent, TreeFailed, MemoryOut, IsRefusal, refusal_read, read_status, memory_printout}
-use Rattle.command_line.specs.Replies.{Reply, Usage, WordsLost, Answered, Refused, Answer, AreCounted, IsAnswer, IsReplyTo, IsRightReply, HasCause, IsCounted, answer_printout, reply_read, reply_name, printout_of}
-use Rattle.command_line.specs.Runs.{AreDetermined, Fits, IsDetermined, IsThere, Outside, Runs, NoneFailed, IsPrinted, IsOnly, IsFailure, IsExact, RanOut, SomePutFailed}
+use Rattle.command_line.specs.Replies.{Reply, Usage, Answered, Refused, Answer, AreCounted, IsAnswer, IsReplyTo, IsRightReply, HasCause, IsCounted, answer_printout, reply_read, reply_name, printout_of}
+use Rattle.command_line.specs.Runs.{AreDetermined, Fits, IsDetermined, IsReplied, IsThere, LosesWords, Outside, Runs, NoneFailed, IsPrinted, IsOnly, IsFailure, IsExact, RanOut, SomePutFailed}
 use Rattle.command_line.specs.Searched.{EndsWith, search_of}
 use Rattle.command_line.specs.Sources.{Source, OfFile, OfSample, IsFaultOf, source_name}
 use Rattle.command_line.specs.Statuses.{code}
@@ -48,17 +48,17 @@ whole printout out out' err err' status (inl all) quiet silent = all
 whole printout out out' err err' status (inr (inl failed)) quiet silent = absurd (quiet (put_rose out.faults out'.faults failed.lines.counted))
 whole printout out out' err err' status (inr (inr failed)) quiet silent = absurd (silent (put_rose err.faults err'.faults failed.messages.counted))
 
--- the lines of replies to the same words have one name, or the words were not read
-one_name : (words : List (List ℕ)) (a b : Reply) → IsReplyTo words a → IsReplyTo words b → b ≢ WordsLost → (reply_name a ≡ reply_name b) ⊎ (reply_name a ≡ None)
-one_name words Usage b p q read = inr refl
-one_name words WordsLost b p q read = inr refl
-one_name words (Answered request answer) Usage p q read = absurd (q request p)
-one_name words (Refused request refusal) Usage p q read = absurd (q request p)
-one_name words a WordsLost p q read = absurd (read refl)
-one_name words (Answered r a) (Answered s b) p q read = inl (ap (λ one. Some (source_name (source_of one))) (one_asked words r s p q))
-one_name words (Answered r a) (Refused s b) p q read = inl (ap (λ one. Some (source_name (source_of one))) (one_asked words r s p q))
-one_name words (Refused r a) (Answered s b) p q read = inl (ap (λ one. Some (source_name (source_of one))) (one_asked words r s p q))
-one_name words (Refused r a) (Refused s b) p q read = inl (ap (λ one. Some (source_name (source_of one))) (one_asked words r s p q))
+-- the lines of replies to the same words have one name
+one_name : (words : List (List ℕ)) (a b : Reply) → IsReplyTo words a → IsReplyTo words b → reply_name a ≡ reply_name b
+one_name words Usage Usage p q = refl
+one_name words Usage (Answered s b) p q = absurd (p s q)
+one_name words Usage (Refused s b) p q = absurd (p s q)
+one_name words (Answered r a) Usage p q = absurd (q r p)
+one_name words (Refused r a) Usage p q = absurd (q r p)
+one_name words (Answered r a) (Answered s b) p q = ap (λ one. Some (source_name (source_of one))) (one_asked words r s p q)
+one_name words (Answered r a) (Refused s b) p q = ap (λ one. Some (source_name (source_of one))) (one_asked words r s p q)
+one_name words (Refused r a) (Answered s b) p q = ap (λ one. Some (source_name (source_of one))) (one_asked words r s p q)
+one_name words (Refused r a) (Refused s b) p q = ap (λ one. Some (source_name (source_of one))) (one_asked words r s p q)
 
 done_known : ReadDone ≡ ReadNoMemory → ⊥
 done_known same = cc
@@ -73,7 +73,6 @@ kind_known kind same = done_known same
 -- a reply that has its cause is not want of memory, or it prints that
 known : (told : Option Table) (reply : Reply) → HasCause told reply → (reply_read reply ≢ ReadNoMemory) ⊎ (printout_of reply ≡ memory_printout (reply_name reply))
 known told Usage cause = inl (λ same. done_known same)
-known told WordsLost cause = inr refl
 known told (Answered request answer) cause = inl (λ same. done_known same)
 known told (Refused request (Unread (At kind file line column subject))) cause = inl (kind_known kind)
 known told (Refused request (Unread NoMemoryToRead)) cause = absurd (cause.some refl)
@@ -110,7 +109,6 @@ file_failed request told MemoryOut cause failed size is = cc
 
 read_failed : (told : Option Table) (reply : Reply) (before now : Counts) → HasCause told reply → IsCounted reply before now → reply_read reply ≡ ReadFailed → SomeFailed before now
 read_failed told Usage before now cause counted failed = cc
-read_failed told WordsLost before now cause counted failed = cc
 read_failed told (Answered request answer) before now cause counted failed = cc
 read_failed told (Refused request refusal) before now cause counted failed = source_failed (source_of request) (refusal_read refusal) before now counted failed (file_failed request told refusal cause failed)
 
@@ -120,7 +118,7 @@ data RightOrOut (words : List (List ℕ)) (files : Table) (before now : Outside)
   memory_printed : IsPrinted (memory_printout (reply_name reply)) before now status → RightOrOut words files before now status reply
 
 -- where the files are told and nothing failed
-right_or_out : (words : List (List ℕ)) (before now : Outside) (status : ℕ) (runs : Runs words before now status) (files : Table) → before.told ≡ Some files → NoneFailed before now → RightOrOut words files before now status runs.reply
+right_or_out : (words : List (List ℕ)) (before now : Outside) (status : ℕ) (runs : IsReplied words before now status) (files : Table) → before.told ≡ Some files → NoneFailed before now → RightOrOut words files before now status runs.reply
 right_or_out words before now status runs files told none = by runs.printed
   where
     cause : HasCause (Some files) runs.reply
@@ -134,20 +132,18 @@ right_or_out words before now status runs files told none = by runs.printed
     by (inl prints) = one (whole (printout_of runs.reply) before.out now.out before.err now.err status prints none.output none.messages) (known (Some files) runs.reply cause)
     by (inr prints) = memory_printed (whole (memory_printout (reply_name runs.reply)) before.out now.out before.err now.err status prints none.output none.messages)
 
+-- memory ran out before the words were read, and no put failed
+lost_printed : (before now : Outside) (status : ℕ) → LosesWords before now status → NoneFailed before now → IsPrinted (memory_printout None) before now status
+lost_printed before now status lost none = whole (memory_printout None) before.out now.out before.err now.err status lost.printed none.output none.messages
+
 -- of told files that determine the answer one reply is printed
 pub only : (words : List (List ℕ)) (before now : Outside) (status : ℕ) → Runs words before now status → IsOnly words before now status
-only words before now status runs files told determined none reply right = by (right_or_out words before now status runs files told none)
+only words before now status (inr lost) files told determined none reply right = inr (inr (lost_printed before now status lost none))
+only words before now status (inl runs) files told determined none reply right = by (right_or_out words before now status runs files told none)
   where
-    read : reply ≢ WordsLost
-    read lost = right.enough (ap reply_read lost)
-
-    named : (reply_name runs.reply ≡ reply_name reply) ⊎ (reply_name runs.reply ≡ None) → IsPrinted (memory_printout (reply_name runs.reply)) before now status → RanOut (reply_name reply) before now status
-    named (inl same) printed = inl (subst (λ name. IsPrinted (memory_printout name) before now status) same printed)
-    named (inr none) printed = inr (subst (λ name. IsPrinted (memory_printout name) before now status) none printed)
-
     by : RightOrOut words files before now status runs.reply → IsPrinted (printout_of reply) before now status ⊎ RanOut (reply_name reply) before now status
     by (right_printed own printed) = inl (subst (λ one. IsPrinted (printout_of one) before now status) (one_reply files words determined runs.reply reply own right) printed)
-    by (memory_printed printed) = inr (named (one_name words runs.reply reply runs.to right.to read) printed)
+    by (memory_printed printed) = inr (inl (subst (λ name. IsPrinted (memory_printout name) before now status) (one_name words runs.reply reply runs.to right.to) printed))
 
 memory_code : (name : Option (List ℕ)) → code (memory_printout name).status ≡ 4
 memory_code None = refl
@@ -187,7 +183,6 @@ module _ (files : Table) where
   -- the right reply to the words succeeds there
   reply_status : (words : List (List ℕ)) (request : Request) → AsksOne words request → IsThere files request → tree_file request ≡ None → (reply : Reply) → IsRightReply words files reply → code (printout_of reply).status ≡ 0
   reply_status words request asks there none Usage right = absurd (right.to request asks)
-  reply_status words request asks there none WordsLost right = absurd (right.enough refl)
   reply_status words request asks there none (Answered other answer) right =
       subst (λ one. (answer : Answer one) → IsAnswer one (Some files) answer → code (answer_printout one answer).status ≡ 0) (one_asked words request other asks right.to) (there_status request there none) answer right.cause
   reply_status words request asks there none (Refused other refusal) right =
@@ -199,27 +194,28 @@ module _ (files : Table) where
       no_name named tree none is = cc
 
 -- a run that asks for a problem that is there succeeds
-module _ (words : List (List ℕ)) (before now : Outside) (status : ℕ) (runs : Runs words before now status) where
-  there_exact : (request : Request) → AsksOne words request → (files : Table) → before.told ≡ Some files → IsThere files request → tree_file request ≡ None → NoneFailed before now → (status ≡ 0) ⊎ (status ≡ 4)
-  there_exact request asks files told there no_tree_named none = by (right_or_out words before now status runs files told none)
+module _ (words : List (List ℕ)) (before now : Outside) (status : ℕ) where
+  there_exact : Runs words before now status → (request : Request) → AsksOne words request → (files : Table) → before.told ≡ Some files → IsThere files request → tree_file request ≡ None → NoneFailed before now → (status ≡ 0) ⊎ (status ≡ 4)
+  there_exact (inr lost) request asks files told there no_tree_named none = inr (lost_printed before now status lost none).status_is
+  there_exact (inl runs) request asks files told there no_tree_named none = by (right_or_out words before now status runs files told none)
     where
       by : RightOrOut words files before now status runs.reply → (status ≡ 0) ⊎ (status ≡ 4)
       by (right_printed right printed) = inl (printed.status_is ∙ reply_status files words request asks there no_tree_named runs.reply right)
       by (memory_printed printed) = inr (printed.status_is ∙ memory_code (reply_name runs.reply))
 
   -- so does one that asks for what is in told files
-  pub exact : IsExact words before now status
-  exact (Prove search) asks files told there none = there_exact (Prove search) asks files told there refl none
-  exact (Models search) asks files told there none = there_exact (Models search) asks files told there refl none
-  exact (Check file tree root) asks files told there none =
+  pub exact : Runs words before now status → IsExact words before now status
+  exact runs (Prove search) asks files told there none = there_exact runs (Prove search) asks files told there refl none
+  exact runs (Models search) asks files told there none = there_exact runs (Models search) asks files told there refl none
+  exact runs (Check file tree root) asks files told there none =
       by (only words before now status runs files told (asked words files (Check file tree root) asks tt) none (Answered (Check file tree root) Accepted) (record { to = asks; cause = there; whole = λ same. cc; enough = λ same. cc }))
     where
       by : IsPrinted (printout_of (Answered (Check file tree root) Accepted)) before now status ⊎ RanOut (Some (name_of file)) before now status → (status ≡ 0) ⊎ (status ≡ 4)
       by (inl printed) = inl printed.status_is
       by (inr (inl printed)) = inr printed.status_is
       by (inr (inr printed)) = inr printed.status_is
-  exact (Forms file root) asks files told there none = there_exact (Forms file root) asks files told there refl none
-  exact (Sample size workers budget) asks files told there none = there_exact (Sample size workers budget) asks files told there refl none
+  exact runs (Forms file root) asks files told there none = there_exact runs (Forms file root) asks files told there refl none
+  exact runs (Sample size workers budget) asks files told there none = there_exact runs (Sample size workers budget) asks files told there refl none
 
 -- a printout gives its own status, or that of a failure
 own_status : (printout : Printout) (out out' err err' : SinkSeen) (status : ℕ) → Prints printout out out' err err' status → (status ≡ code printout.status) ⊎ (status ≡ 3)
@@ -275,14 +271,12 @@ source_quiet (OfSample size) answer before now whole enough counted = ap (λ (co
 
 reply_quiet : (reply : Reply) (before now : Counts) → IsCounted reply before now → reply_read reply ≢ ReadFailed → reply_read reply ≢ ReadNoMemory → now.faults ≡ before.faults
 reply_quiet Usage before now counted whole enough = ap (λ (counts : Counts). counts.faults) counted
-reply_quiet WordsLost before now counted whole enough = ap (λ (counts : Counts). counts.faults) counted
 reply_quiet (Answered request answer) before now counted whole enough = source_quiet (source_of request) ReadDone before now whole enough counted
 reply_quiet (Refused request refusal) before now counted whole enough = source_quiet (source_of request) (refusal_read refusal) before now whole enough counted
 
 -- the status of a reply behind a failed read is that of a failure
 failed_status : (reply : Reply) → reply_read reply ≡ ReadFailed → (printout_of reply).status ≡ Failed
 failed_status Usage failed = absurd (done_fine failed)
-failed_status WordsLost failed = cc
 failed_status (Answered request answer) failed = absurd (done_fine failed)
 failed_status (Refused request (Unread (At kind file line column subject))) failed = failed_kind kind file line column subject failed
 failed_status (Refused request (Unread NoMemoryToRead)) failed = cc
@@ -319,7 +313,6 @@ answer_fine (Sample size workers budget) answer same = listed_fine answer.gave_u
 
 behind_failure : (reply : Reply) → 3 ≡ code (printout_of reply).status → reply_read reply ≡ ReadFailed
 behind_failure Usage same = absurd (omega arith)
-behind_failure WordsLost same = absurd (omega arith)
 behind_failure (Answered request answer) same = absurd (answer_fine request answer same)
 behind_failure (Refused request (Unread (At kind file line column subject))) same = other_kind kind file line column subject same
 behind_failure (Refused request (Unread NoMemoryToRead)) same = absurd (omega arith)
@@ -332,9 +325,9 @@ memory_fine : (name : Option (List ℕ)) → 3 ≡ code (memory_printout name).s
 memory_fine None same = omega arith
 memory_fine (Some name) same = omega arith
 
--- when the status of a run is that of a failure
-pub failure : (words : List (List ℕ)) (before now : Outside) (status : ℕ) → Runs words before now status → IsFailure before now status
-failure words before now status runs = record { put = put runs.printed; read = read; cause = cause }
+-- when the status is that of a failure, where the words were replied to
+failure_replied : (words : List (List ℕ)) (before now : Outside) (status : ℕ) → IsReplied words before now status → IsFailure before now status
+failure_replied words before now status runs = record { put = put runs.printed; read = read; cause = cause }
   where
     put : Prints (printout_of runs.reply) before.out now.out before.err now.err status ⊎ Prints (memory_printout (reply_name runs.reply)) before.out now.out before.err now.err status → SomePutFailed before now → status ≡ 3
     put (inl prints) moved = put_status (printout_of runs.reply) before.out now.out before.err now.err status prints moved
@@ -373,3 +366,12 @@ failure words before now status runs = record { put = put runs.printed; read = r
 
     cause : status ≡ 3 → NoneFailed before now → ⊥
     cause is none = by_cause runs.printed is none
+
+-- when the status of a run is that of a failure
+pub failure : (words : List (List ℕ)) (before now : Outside) (status : ℕ) → Runs words before now status → IsFailure before now status
+failure words before now status (inl runs) = failure_replied words before now status runs
+failure words before now status (inr lost) = record {
+  put = put_status (memory_printout None) before.out now.out before.err now.err status lost.printed;
+  read = λ moved. absurd (moved (ap (λ (counts : Counts). counts.faults) lost.counted));
+  cause = λ is none. memory_fine None (sym is ∙ (lost_printed before now status lost none).status_is);
+}

@@ -8,7 +8,6 @@ use Rattle.mg_word.specs.declared.clause.Clause.{Clause}
 use Rattle.mg_outside.specs.Counting.{Counts}
 use Rattle.mg_outside.specs.Reading.{Table}
 use Rattle.mg_outside.specs.declared.files.ReadAnswer.TheVariants.{Done as ReadDone, NoMemory as ReadNoMemory}
-use Rattle.mg_outside.proofs.Ends.{none_counted, quiet_ends}
 use Rattle.cnf_reader.specs.declared.fault.ReadFault.{ReadFault}
 use Rattle.cnf_reader.specs.declared.fault.ReadFault.TheVariants.{NoMemory as NoMemoryToRead}
 use Rattle.clause_form.specs.Faults.{Stands}
@@ -19,9 +18,9 @@ use Rattle.command_words.specs.Requests.{seen}
 use Rattle.command_words.specs.declared.request.Request.{Request as Found}
 use Rattle.szs_report.specs.Lines.{faulty_clause}
 use Rattle.command_line.specs.Refusals.{Refusal, Unread, Unformed, TreeAbsent, TreeFailed, MemoryOut, IsRefusal, IsReportable, refusal_read, refusal_printout, memory_printout}
-use Rattle.command_line.specs.Replies.{Reply, Usage, WordsLost, Answered, Refused, Answer, AreCounted, IsAnswer, IsReplyTo, Replies, answer_printout, printout_of, reply_name, request_of}
+use Rattle.command_line.specs.Replies.{Reply, Usage, Answered, Refused, Answer, AreCounted, IsAnswer, IsReplyTo, Replies, answer_printout, printout_of, reply_name, request_of}
 use Rattle.command_line.specs.Printing.{Prints}
-use Rattle.command_line.specs.Runs.{Outside, Runs}
+use Rattle.command_line.specs.Runs.{Outside, IsReplied}
 use Rattle.command_line.specs.Sources.{Source, OfFile, OfSample, IsFaultOf, IsInputOf, source_name}
 use Rattle.command_line.specs.Wanted.{AsksNone, AsksOne, source_of}
 use Rattle.command_line.specs.declared.printout.Printout.{Printout}
@@ -64,14 +63,14 @@ pub replies_refusal : (request : Request) (told : Option Table) (before now : Co
     → IfOk result (λ printout. printout ≡ refusal_printout (source_name (source_of request)) refusal) → Replies (Some request) told before now result
 replies_refusal request told before now refusal result right counted lines = record { reply = Refused request refusal; to = refl; cause = right; counted = counted; lines = lines }
 
--- nothing is counted of reads that were not made
-nothing_counted : (source : Source) (counts : Counts) → AreCounted source ReadNoMemory counts counts
-nothing_counted (OfFile file root) counts = (ReadDone, quiet_ends counts counts (none_counted counts))
-nothing_counted (OfSample size) counts = refl
+-- reads behind which memory runs out
+memory_counted : (source : Source) (before now : Counts) → AreCounted source ReadDone before now → AreCounted source ReadNoMemory before now
+memory_counted (OfFile file root) before now counted = (ReadDone, counted)
+memory_counted (OfSample size) before now counted = counted
 
--- a command may find no memory before its first read
-pub replies_memory : (request : Request) (told : Option Table) (counts : Counts) (none : NoMemory) → Replies (Some request) told counts counts (Err none)
-replies_memory request told counts none = record { reply = Refused request MemoryOut; to = refl; cause = tt; counted = nothing_counted (source_of request) counts; lines = tt }
+-- a command may find no memory behind its reads
+pub replies_memory : (request : Request) (told : Option Table) (before now : Counts) (none : NoMemory) → AreCounted (source_of request) ReadDone before now → Replies (Some request) told before now (Err none)
+replies_memory request told before now none counted = record { reply = Refused request MemoryOut; to = refl; cause = tt; counted = memory_counted (source_of request) before now counted; lines = tt }
 
 -- words that ask for nothing are answered by the usage
 pub replies_usage : (told : Option Table) (counts : Counts) (result : Result Printout NoMemory) → IfOk result (λ printout. printout ≡ printout_of Usage) → Replies None told counts counts result
@@ -88,34 +87,28 @@ names_seen (Some request) = refl
 
 name_of_request : (reply : Reply) → option_map (λ request. source_name (source_of request)) (request_of reply) ≡ reply_name reply
 name_of_request Usage = refl
-name_of_request WordsLost = refl
 name_of_request (Answered request answer) = refl
 name_of_request (Refused request refusal) = refl
 
 -- a reply to what was read off the words is one to the words
 reply_to : (words : List (List ℕ)) (reply : Reply) → MatchOption (request_of reply) (AsksNone words) (AsksOne words) → IsReplyTo words reply
 reply_to words Usage asks = asks
-reply_to words WordsLost asks = tt
 reply_to words (Answered request answer) asks = asks
 reply_to words (Refused request refusal) asks = asks
 
--- words that were not read, for want of memory
-pub lost_run : (words : List (List ℕ)) (before now : Outside) (status : ℕ) → now.counts ≡ before.counts → Prints (memory_printout None) before.out now.out before.err now.err status → Runs words before now status
-lost_run words before now status counted prints = record { reply = WordsLost; to = tt; cause = tt; counted = counted; printed = inl prints }
-
--- a reply that was printed is a run
-pub run : (words : List (List ℕ)) (wanted : Option Request) (before now : Outside) (result : Result Printout NoMemory) (name : Option (List ℕ)) (status : ℕ) → MatchOption wanted (AsksNone words) (AsksOne words)
+-- words that were read are replied to
+pub replied : (words : List (List ℕ)) (wanted : Option Request) (before now : Outside) (result : Result Printout NoMemory) (name : Option (List ℕ)) (status : ℕ) → MatchOption wanted (AsksNone words) (AsksOne words)
     → Replies wanted before.told before.counts now.counts result → name ≡ option_map (λ request. source_name (source_of request)) wanted
     → MatchResult result (λ printout. Prints printout before.out now.out before.err now.err status) (λ none. Prints (memory_printout name) before.out now.out before.err now.err status)
-    → Runs words before now status
-run words wanted before now (Ok printout) name status asks replies named prints = record {
+    → IsReplied words before now status
+replied words wanted before now (Ok printout) name status asks replies named prints = record {
   reply = replies.reply;
   to = reply_to words replies.reply (subst (λ one. MatchOption one (AsksNone words) (AsksOne words)) (sym replies.to) asks);
   cause = replies.cause;
   counted = replies.counted;
   printed = inl (subst (λ one. Prints one before.out now.out before.err now.err status) replies.lines prints);
 }
-run words wanted before now (Err none) name status asks replies named prints =
+replied words wanted before now (Err none) name status asks replies named prints =
     let names : name ≡ reply_name replies.reply = named ∙ ap (option_map (λ request. source_name (source_of request))) (sym replies.to) ∙ name_of_request replies.reply in
     record {
       reply = replies.reply;

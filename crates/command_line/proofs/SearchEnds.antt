@@ -40,27 +40,12 @@ use Rattle.tree_checker.specs.Docs.{IsWellFormed, Accepts}
 use Rattle.tree_checker.specs.declared.doc.Doc.{Doc}
 use Rattle.tree_checker.proofs.Refuting.{Accepts-refutes}
 use Rattle.board_tree.specs.Documents.{doc_of}
-use Rattle.command_line.specs.Searched.{EndsWith, IsAtEnd, IsFound, IsGivenUp, IsRefuted, IsRun, IsSatisfied, IsSearched, end_of, search_of}
+use Rattle.model_lister.specs.Ends.{IsSearched, end_of}
+use Rattle.model_lister.proofs.Journal.{alone_end, alone_replay}
+use Rattle.command_line.specs.Searched.{EndsWith, IsAtEnd, IsFound, IsGivenUp, IsRefuted, IsRun, IsSatisfied, search_of}
 use Rattle.command_line.specs.Proves.{HasLines}
 use Rattle.command_line.specs.declared.finding.Finding.{Finding}
 use Rattle.command_line.specs.declared.finding.Finding.TheVariants.{Unsatisfiable, Satisfiable, GaveUp}
-
--- ---- the journal
-
-alone_lawful : (setting : Setting) (board : Board) (events : List Event) → IsAlone setting board events → AreLawful setting board events
-alone_lawful setting board [] alone = tt
-alone_lawful setting board (event ∷ events) (more, lawful, first, rest) = (lawful, alone_lawful setting (effect setting board event) events rest)
-
--- one worker's search ends at a replay
-pub alone_replay : (setting : Setting) (events : List Event) → IsAlone setting opening events → IsReplay setting (replay_from setting opening events)
-alone_replay setting events alone = record { events = events; lawful = alone_lawful setting opening events alone; is = refl }
-
--- and there the search has ended, or can go no further
-pub alone_end : (setting : Setting) (board : Board) (events : List Event) → IsAlone setting board events
-    → IsEnd (state_of setting (replay_from setting board events)) ⊎ IsLeft setting (replay_from setting board events)
-unfolding replay_from
-alone_end setting board [] ended = ended
-alone_end setting board (event ∷ events) (more, lawful, first, rest) = alone_end setting (effect setting board event) events rest
 
 -- ---- how it stands
 

@@ -4,8 +4,9 @@ use Rattle.mg_word.specs.Facts.{ProblemData}
 use Rattle.mg_word.specs.declared.lit.Lit.{Lit}
 use Rattle.mg_meaning.specs.Instances.{are_literals}
 use Rattle.mg_outside.specs.Reading.{Table}
+use Rattle.model_lister.specs.Ends.{IsSearched}
 use Rattle.model_lister.specs.Listings.{Lists}
-use Rattle.model_lister.specs.Runs.{IsSearched, search_of}
+use Rattle.model_lister.specs.Runs.{search_of}
 use Rattle.model_lister.specs.declared.listing.Listing.{Listing}
 use Rattle.szs_report.specs.ModelLines.{models_lines, sample_lines}
 use Rattle.tree_board.specs.declared.event.Event.{Event}

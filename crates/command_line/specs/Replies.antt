@@ -15,7 +15,7 @@ use Rattle.command_line.specs.Checks.{IsChecked, check_printout}
 use Rattle.command_line.specs.Listed.{Listed, IsListed, models_printout, sample_printout}
 use Rattle.command_line.specs.Problems.{IsProblemOf}
 use Rattle.command_line.specs.Proves.{Proved, IsProved, prove_printout}
-use Rattle.command_line.specs.Refusals.{Refusal, IsRefusal, refusal_read, refusal_printout, memory_printout}
+use Rattle.command_line.specs.Refusals.{Refusal, IsRefusal, refusal_read, refusal_printout}
 use Rattle.command_line.specs.Sources.{Source, OfFile, OfSample, source_name}
 use Rattle.command_line.specs.Wanted.{AsksOne, AsksNone, sample_limits, search_limits, searched_file, source_of}
 use Rattle.command_line.specs.declared.status.Status.TheVariants.{Done as DoneStatus, Refused as RefusedStatus}
@@ -49,31 +49,27 @@ answer_printout (Check file tree root) answer = check_printout (name_of file) an
 answer_printout (Forms file root) problem = forms_printout problem
 answer_printout (Sample size workers budget) answer = sample_printout (sample_name size) (sample_limits budget) answer
 
--- the usage, that memory ran out before the words were read, the answer of a command, or why its input is refused
+-- the usage, the answer of a command, or why its input is refused
 pub data Reply : Type 0 where
   Usage : Reply
-  WordsLost : Reply
   Answered : (request : Request) → Answer request → Reply
   Refused : (request : Request) → Refusal → Reply
 
 -- it is a reply to what the words ask one worker for
 abbrev pub IsReplyTo : List (List ℕ) → Reply → Type 0
 IsReplyTo words Usage = AsksNone words
-IsReplyTo words WordsLost = Unit {0}
 IsReplyTo words (Answered request answer) = AsksOne words request
 IsReplyTo words (Refused request refusal) = AsksOne words request
 
 -- what stands behind each reply
 abbrev pub HasCause : Option Table → Reply → Type 0
 HasCause told Usage = Unit {0}
-HasCause told WordsLost = Unit {0}
 HasCause told (Answered request answer) = IsAnswer request told answer
 HasCause told (Refused request refusal) = IsRefusal request told refusal
 
 -- what the last read before it answered
 abbrev pub reply_read : Reply → ReadAnswer
 reply_read Usage = ReadDone
-reply_read WordsLost = ReadNoMemory
 reply_read (Answered request answer) = ReadDone
 reply_read (Refused request refusal) = refusal_read refusal
 
@@ -85,21 +81,18 @@ AreCounted (OfSample size) answer before now = now ≡ before
 -- what is counted: the reads that led to the reply, and nothing before any other
 abbrev pub IsCounted : Reply → Counts → Counts → Type 0
 IsCounted Usage before now = now ≡ before
-IsCounted WordsLost before now = now ≡ before
 IsCounted (Answered request answer) before now = AreCounted (source_of request) ReadDone before now
 IsCounted (Refused request refusal) before now = AreCounted (source_of request) (refusal_read refusal) before now
 
 -- the name of the problem in its lines
 abbrev pub reply_name : Reply → Option (List ℕ)
 reply_name Usage = None
-reply_name WordsLost = None
 reply_name (Answered request answer) = Some (source_name (source_of request))
 reply_name (Refused request refusal) = Some (source_name (source_of request))
 
 -- its lines and its status
 abbrev pub printout_of : Reply → Printout
 printout_of Usage = record { out = []; err = usage_lines; status = RefusedStatus }
-printout_of WordsLost = memory_printout None
 printout_of (Answered request answer) = answer_printout request answer
 printout_of (Refused request refusal) = refusal_printout (source_name (source_of request)) refusal
 
@@ -113,7 +106,6 @@ pub record IsRightReply (words : List (List ℕ)) (files : Table) (reply : Reply
 -- the command to which it is a reply; the usage is none to a command
 abbrev pub request_of : Reply → Option Request
 request_of Usage = None
-request_of WordsLost = None
 request_of (Answered request answer) = Some request
 request_of (Refused request refusal) = Some request
 

@@ -38,13 +38,22 @@ abbrev pub PrintsReply : Reply → Outside → Outside → ℕ → Type 0
 PrintsReply reply before now status =
     Prints (printout_of reply) before.out now.out before.err now.err status ⊎ Prints (memory_printout (reply_name reply)) before.out now.out before.err now.err status
 
--- what is printed is a reply to the words that has its cause, or that memory ran out
-pub record Runs (words : List (List ℕ)) (before now : Outside) (status : ℕ) : Type 0 where
+-- the words were read, and what is printed is a reply to them that has its cause, or that memory ran out
+pub record IsReplied (words : List (List ℕ)) (before now : Outside) (status : ℕ) : Type 0 where
   pub reply : Reply
   pub to : IsReplyTo words reply
   pub cause : HasCause before.told reply
   pub counted : IsCounted reply before.counts now.counts
   pub printed : PrintsReply reply before now status
+
+-- memory ran out before the words were read: no file was, and the lines have no name
+pub record LosesWords (before now : Outside) (status : ℕ) : Type 0 where
+  pub counted : now.counts ≡ before.counts
+  pub printed : Prints (memory_printout None) before.out now.out before.err now.err status
+
+-- the words were read and replied to, or memory ran out before that
+abbrev pub Runs : List (List ℕ) → Outside → Outside → ℕ → Type 0
+Runs words before now status = IsReplied words before now status ⊎ LosesWords before now status
 
 -- no read and no put failed
 pub record NoneFailed (before now : Outside) : Type 0 where

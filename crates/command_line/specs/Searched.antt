@@ -7,16 +7,15 @@ use Rattle.mg_meaning.specs.Models.{IsModel}
 use Rattle.mg_meaning.specs.Refuting.{Refutes}
 use Rattle.mg_meaning.specs.Satisfaction.{Satisfies}
 use Rattle.mg_meaning.specs.Truth.{atoms_of}
-use Rattle.tree_board.specs.Alone.{IsAlone, FitsPlain}
+use Rattle.model_lister.specs.Ends.{IsSearched, end_of}
+use Rattle.tree_board.specs.Alone.{FitsPlain}
 use Rattle.tree_board.specs.Boards.{opening}
 use Rattle.tree_board.specs.Readers.{lits_of}
 use Rattle.tree_board.specs.Searches.{Search, setting_of, board_of}
-use Rattle.tree_board.specs.Standing.{state_of}
 use Rattle.tree_board.specs.Stuck.{GivesUp}
 use Rattle.tree_board.specs.WorkerLaws.{IsOneWorker}
 use Rattle.tree_board.specs.declared.board.TheConstants.{MOST_BUDGET, MOST_WEIGHT}
 use Rattle.tree_board.specs.declared.event.Event.{Event}
-use Rattle.tree_board.specs.declared.mode.BoardState.{BoardState}
 use Rattle.tree_board.specs.declared.mode.BoardState.TheVariants.{Blocked, Closed, Model}
 use Rattle.tree_board.specs.declared.mode.Limit.{Limit}
 use Rattle.tree_board.specs.declared.mode.Limits.{Limits}
@@ -37,14 +36,6 @@ pub record AreAllowed (limits : Limits) : Type 0 where
 -- the search for one satisfying set of the problem or none, after these events
 abbrev pub search_of : ProblemData → Limits → List Event → Search
 search_of problem limits journal = record { problem = problem; mode = Refute; limits = limits; journal = journal }
-
--- how the board that its journal leaves stands
-abbrev pub end_of : Search → BoardState
-end_of search = state_of (setting_of search) (board_of search)
-
--- one worker has gone on with the search from its opening to the end
-abbrev pub IsSearched : Search → Type 0
-IsSearched search = IsAlone (setting_of search) opening search.journal
 
 -- such a search for one satisfying set of a problem or none
 pub record IsAtEnd (search : Search) : Type 0 where

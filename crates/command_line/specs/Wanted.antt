@@ -1,5 +1,6 @@
 -- What the commands are about, by whom they are done, and how far their searches go.
-use Rattle.std.specs.Prelude.{◌≡◌, ℕ, ◌≤◌, List, Option, Some, None, IfSome}
+use Rattle.std.specs.Prelude.{◌≡◌, ℕ, List, Option, Some, None, IfSome}
+use Rattle.sample_maker.specs.Sample.{HasSample}
 use Rattle.command_words.specs.Asking.{Asks, Request, Prove, Models, Check, Forms, Sample, Search, weight}
 use Rattle.tree_board.specs.declared.mode.Limits.{Limits}
 use Rattle.command_line.specs.Searched.{AreAllowed}
@@ -60,4 +61,4 @@ IsPossible (Prove search) = AreAllowed (search_limits search)
 IsPossible (Models search) = AreAllowed (search_limits search)
 IsPossible (Check file tree root) = Unit {0}
 IsPossible (Forms file root) = Unit {0}
-IsPossible (Sample size workers budget) = (1 ≤ size) × (size ≤ 20) × AreAllowed (sample_limits budget)
+IsPossible (Sample size workers budget) = HasSample size × AreAllowed (sample_limits budget)

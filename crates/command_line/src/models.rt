@@ -1,19 +1,17 @@
 //! The command `models`: the minimal sets that satisfy a problem.
 
-ghost use Rattle.std.specs.Prelude.{◌≡◌, Some, IfOk, MatchResult};
-ghost use Rattle.mg_outside.specs.Counting.{CallEnds};
+ghost use Rattle.std.specs.Prelude.{◌≡◌, Some, IfOk};
 ghost use Rattle.command_words.specs.Asking.{Models};
 ghost use Rattle.command_words.specs.Requests.{search_seen};
 ghost use Rattle.model_lister.specs.Listings.{IsListing};
-ghost use Rattle.command_line.specs.Listed.{HaveLines, IsListed, listed_by, listed_status, models_printout};
-ghost use Rattle.command_line.specs.Refusals.{IsRefusal, result_read, seen};
+ghost use Rattle.command_line.specs.Listed.{HaveLines, listed_by, listed_status, models_printout};
 ghost use Rattle.command_line.specs.Replies.{Replies};
 ghost use Rattle.command_line.specs.Searched.{AreAllowed};
-ghost use Rattle.command_line.specs.Wanted.{search_limits, searched_file};
+ghost use Rattle.command_line.specs.Wanted.{search_limits};
 
 use crate::printout::Printout;
 use crate::problem::problem_of;
-use crate::refusal::{Refusal, print_refusal};
+use crate::refusal::print_refusal;
 use crate::status::Status;
 use crate::wanted::search_limits;
 use command_words::Search;
@@ -32,29 +30,6 @@ pub fn list(alloc: Global, problem: Problem, limits: Limits) -> Result<Listing, 
 {
     let problem = Arc::new(alloc, problem)?;
     list_models(alloc, problem, limits)
-}
-
-// The minimal sets that satisfy the problem in the file.
-fn answer<'a, F: Files>(
-    alloc: Global,
-    files: &mut F,
-    search: &Search<'_>,
-) -> Result<Listing, Refusal<'a>>
-    requires { AreAllowed (search_limits (search_seen search.now)) }
-    ensures same { F.table files.new ≡ F.table files.old }
-    ensures counted { CallEnds (result_read result) (F.counts files.old) (F.counts files.new) }
-    ensures cause { MatchResult result
-        (λ listing. IsListed (F.table files.old) (searched_file (search_seen search.now)) (search_limits (search_seen search.now)) (listed_by listing))
-        (λ refusal. IsRefusal (Models (search_seen search.now)) (F.table files.old) (seen refusal)) }
-{
-    let problem = match problem_of(alloc, files, search.file, search.root) {
-        Ok(problem) => problem,
-        Err(refusal) => return Err(refusal),
-    };
-    match list(alloc, problem, search_limits(search)) {
-        Ok(listing) => Ok(listing),
-        Err(_) => Err(Refusal::MemoryOut),
-    }
 }
 
 /// The status of a list whose lines were put.
@@ -91,8 +66,12 @@ pub fn run_models<F: Files>(
     ensures replies { Replies (Some (Models (search_seen search.now))) (F.table files.old) (F.counts files.old) (F.counts files.new) result }
 {
     let name = szs_name(search.file);
-    match answer(alloc, files, search) {
-        Ok(listing) => print(alloc, name, search_limits(search), &listing),
+    let limits = search_limits(search);
+    match problem_of(alloc, files, search.file, search.root) {
+        Ok(problem) => {
+            let listing = list(alloc, problem, limits)?;
+            print(alloc, name, limits, &listing)
+        }
         Err(refusal) => print_refusal(alloc, name, &refusal),
     }
 }

@@ -1,21 +1,20 @@
 //! The command `prove`: the search for a proof that a problem is unsatisfiable, or for a set that satisfies it.
 
-ghost use Rattle.std.specs.Prelude.{◌≡◌, Some, IfOk, MatchResult};
-ghost use Rattle.mg_outside.specs.Counting.{CallEnds};
+ghost use Rattle.std.specs.Prelude.{◌≡◌, Some, IfOk};
 ghost use Rattle.mg_word.specs.Facts.{IsProblem};
 ghost use Rattle.command_words.specs.Asking.{Prove};
 ghost use Rattle.command_words.specs.Requests.{search_seen};
+ghost use Rattle.model_lister.specs.Ends.{end_of};
 ghost use Rattle.command_line.specs.Outcomes.{proved_by};
-ghost use Rattle.command_line.specs.Proves.{HasLines, IsProved, finding_lines, finding_status, prove_printout};
-ghost use Rattle.command_line.specs.Refusals.{IsRefusal, result_read, seen};
+ghost use Rattle.command_line.specs.Proves.{HasLines, finding_lines, finding_status, prove_printout};
 ghost use Rattle.command_line.specs.Replies.{Replies};
-ghost use Rattle.command_line.specs.Searched.{AreAllowed, EndsWith, IsAtEnd, IsFound, IsRefuted, IsRun, IsSatisfied, end_of};
-ghost use Rattle.command_line.specs.Wanted.{search_limits, searched_file};
+ghost use Rattle.command_line.specs.Searched.{AreAllowed, EndsWith, IsAtEnd, IsFound, IsRefuted, IsRun, IsSatisfied};
+ghost use Rattle.command_line.specs.Wanted.{search_limits};
 
 use crate::finding::Finding;
 use crate::printout::Printout;
 use crate::problem::problem_of;
-use crate::refusal::{Refusal, print_refusal};
+use crate::refusal::print_refusal;
 use crate::status::Status;
 use crate::wanted::search_limits;
 use board_tree::{TreeRefusal, tree_of};
@@ -97,29 +96,6 @@ fn find(alloc: Global, problem: Problem, limits: Limits) -> Result<Outcome, NoMe
     Ok(Outcome { board, finding })
 }
 
-// The search for the problem in the file, and what it ends with.
-fn answer<'a, F: Files>(
-    alloc: Global,
-    files: &mut F,
-    search: &Search<'_>,
-) -> Result<Outcome, Refusal<'a>>
-    requires { AreAllowed (search_limits (search_seen search.now)) }
-    ensures same { F.table files.new ≡ F.table files.old }
-    ensures counted { CallEnds (result_read result) (F.counts files.old) (F.counts files.new) }
-    ensures cause { MatchResult result
-        (λ outcome. IsProved (F.table files.old) (searched_file (search_seen search.now)) (search_limits (search_seen search.now)) (proved_by outcome))
-        (λ refusal. IsRefusal (Prove (search_seen search.now)) (F.table files.old) (seen refusal)) }
-{
-    let problem = match problem_of(alloc, files, search.file, search.root) {
-        Ok(problem) => problem,
-        Err(refusal) => return Err(refusal),
-    };
-    match find(alloc, problem, search_limits(search)) {
-        Ok(outcome) => Ok(outcome),
-        Err(_) => Err(Refusal::MemoryOut),
-    }
-}
-
 // The report of what a search for the problem of this name ends with.
 fn report(
     alloc: Global,
@@ -178,8 +154,12 @@ pub fn run_prove<F: Files>(
     ensures replies { Replies (Some (Prove (search_seen search.now))) (F.table files.old) (F.counts files.old) (F.counts files.new) result }
 {
     let name = szs_name(search.file);
-    match answer(alloc, files, search) {
-        Ok(outcome) => print(alloc, name, search_limits(search), &outcome),
+    let limits = search_limits(search);
+    match problem_of(alloc, files, search.file, search.root) {
+        Ok(problem) => {
+            let outcome = find(alloc, problem, limits)?;
+            print(alloc, name, limits, &outcome)
+        }
         Err(refusal) => print_refusal(alloc, name, &refusal),
     }
 }

@@ -1,10 +1,11 @@
 //! The command `sample`: the minimal sets of a sample problem, in short.
 
-ghost use Rattle.std.specs.Prelude.{◌≡◌, ◌≤◌, ℕ, IfOk, MatchResult, Option, Some};
+ghost use Rattle.std.specs.Prelude.{◌≡◌, ℕ, IfOk, MatchResult, Option, Some};
 ghost use Rattle.mg_outside.specs.Counting.{Counts};
 ghost use Rattle.mg_outside.specs.Reading.{Table};
+ghost use Rattle.sample_maker.specs.Sample.{HasSample};
 ghost use Rattle.command_words.specs.Asking.{Sample};
-ghost use Rattle.command_line.specs.Listed.{HaveLines, IsListed, listed_by, sample_printout};
+ghost use Rattle.command_line.specs.Listed.{HaveLines, listed_by, sample_printout};
 ghost use Rattle.command_line.specs.Problems.{IsProblemOf};
 ghost use Rattle.command_line.specs.Refusals.{IsRefusal, seen};
 ghost use Rattle.command_line.specs.Replies.{Replies};
@@ -38,8 +39,7 @@ fn sample_limits(budget: u32) -> Limits
 
 // The sample problem of the size.
 fn problem_of<'a>(alloc: Global, size: u32) -> Result<Problem, Refusal<'a>>
-    requires least { 1 ≤ size }
-    requires most { size ≤ 20 }
+    requires { HasSample size }
     ensures { (workers budget : ℕ) (told : Option Table) → MatchResult result
         (IsProblemOf told (OfSample size))
         (λ refusal. IsRefusal (Sample size workers budget) told (seen refusal)) }
@@ -60,25 +60,6 @@ fn problem_of<'a>(alloc: Global, size: u32) -> Result<Problem, Refusal<'a>>
     }
 }
 
-// The minimal sets of the sample problem of the size.
-fn answer<'a>(alloc: Global, size: u32, budget: u32) -> Result<Listing, Refusal<'a>>
-    requires least { 1 ≤ size }
-    requires most { size ≤ 20 }
-    requires allowed { AreAllowed (sample_limits budget) }
-    ensures { (workers : ℕ) (told : Option Table) → MatchResult result
-        (λ listing. IsListed told (OfSample size) (sample_limits budget) (listed_by listing))
-        (λ refusal. IsRefusal (Sample size workers budget) told (seen refusal)) }
-{
-    let problem = match problem_of(alloc, size) {
-        Ok(problem) => problem,
-        Err(refusal) => return Err(refusal),
-    };
-    match list(alloc, problem, sample_limits(budget)) {
-        Ok(listing) => Ok(listing),
-        Err(_) => Err(Refusal::MemoryOut),
-    }
-}
-
 // What is printed of a listing for the sample problem of this name.
 fn print(alloc: Global, name: &str, limits: Limits, listing: &Listing) -> Result<Printout, NoMemory>
     requires { HaveLines (listed_by listing.now) }
@@ -95,14 +76,17 @@ fn print(alloc: Global, name: &str, limits: Limits, listing: &Listing) -> Result
 /// Searches for the minimal sets of the sample problem of the size, and answers what is to be printed. No file is
 /// read, whatever files are told and counted.
 pub fn run_sample(alloc: Global, size: u32, budget: u32) -> Result<Printout, NoMemory>
-    requires least { 1 ≤ size }
-    requires most { size ≤ 20 }
+    requires has { HasSample size }
     requires allowed { AreAllowed (sample_limits budget) }
     ensures { (workers : ℕ) (told : Option Table) (counts : Counts) → Replies (Some (Sample size workers budget)) told counts counts result }
 {
     let name = sample_name(size);
-    match answer(alloc, size, budget) {
-        Ok(listing) => print(alloc, name, sample_limits(budget), &listing),
+    let limits = sample_limits(budget);
+    match problem_of(alloc, size) {
+        Ok(problem) => {
+            let listing = list(alloc, problem, limits)?;
+            print(alloc, name, limits, &listing)
+        }
         Err(refusal) => print_refusal(alloc, name, &refusal),
     }
 }

@@ -1,12 +1,12 @@
 //! The top call: from the words to the status.
 
-ghost use Rattle.std.specs.Prelude.{◌≡◌, IfOk, IfSome, map, string_bytes};
+ghost use Rattle.std.specs.Prelude.{◌≡◌, ℕ, List, IfOk, IfSome, MatchOption, map, string_bytes};
 ghost use Rattle.std.specs.Option.{option_map};
 ghost use Rattle.command_words.specs.Requests.{seen};
 ghost use Rattle.command_line.specs.Replies.{Replies, Usage, printout_of};
-ghost use Rattle.command_line.specs.Runs.{Runs, IsOnly, IsFailure, IsExact, outside_of};
+ghost use Rattle.command_line.specs.Runs.{Runs, IsReplied, IsOnly, IsFailure, IsExact, outside_of};
 ghost use Rattle.command_line.specs.Sources.{source_name};
-ghost use Rattle.command_line.specs.Wanted.{IsPossible, source_of};
+ghost use Rattle.command_line.specs.Wanted.{AsksNone, AsksOne, IsPossible, source_of};
 
 use crate::check::run_check;
 use crate::forms::run_forms;
@@ -66,6 +66,26 @@ fn reply<F: Files>(
     }
 }
 
+// Does what was read off the words, and answers the number of the exit status. Want of memory is put with the name of the
+// problem, if one is asked for.
+fn serve<F: Files, O: Sink, E: Sink>(
+    alloc: Global,
+    request: &Option<Request<'_>>,
+    files: &mut F,
+    out: &mut O,
+    err: &mut E,
+) -> u8
+    requires { IfSome request.now (λ wanted. IsPossible (seen wanted)) }
+    ensures same { F.table files.new ≡ F.table files.old }
+    ensures replied { (words : List (List ℕ)) → MatchOption request.now (AsksNone words) (λ wanted. AsksOne words (seen wanted)) → IsReplied words
+        (outside_of F.table F.counts O.seen E.seen files.old out.old err.old)
+        (outside_of F.table F.counts O.seen E.seen files.new out.new err.new)
+        result }
+{
+    let outcome = reply(alloc, files, request);
+    put_result(name_of(request), &outcome, out, err).code()
+}
+
 /// Does what the words after the program's name ask for, and answers the number of the exit status. One
 /// worker does it: words that ask for more get the usage.
 pub fn run_alone<F: Files, O: Sink, E: Sink>(
@@ -96,6 +116,5 @@ pub fn run_alone<F: Files, O: Sink, E: Sink>(
     let Ok(request) = asked_of_one(alloc, words) else {
         return put_result(None, &Err(NoMemory), out, err).code();
     };
-    let outcome = reply(alloc, files, &request);
-    put_result(name_of(&request), &outcome, out, err).code()
+    serve(alloc, &request, files, out, err)
 }

@@ -2,8 +2,9 @@
 use Rattle.std.proofs.Common.{◌≡◌, ◌≢◌, ◌<◌, ℕ, [], Option, Some, None, MatchOption, refl, sym, ap, ◌∙◌, subst, arith}
 use Rattle.ascii_text.specs.Numbers.{IsValue}
 use Rattle.ascii_text.proofs.Digits.{decimal_same}
+use Rattle.sample_maker.specs.declared.limits.TheConstants.{LEAST_SIZE, MOST_SIZE}
 use Rattle.command_words.specs.Given.{Word, Values, value_of}
-use Rattle.command_words.specs.Asking.{Row, HasFile, HasNumber, HasRoot, HasSize, IsNumberIn, root}
+use Rattle.command_words.specs.Asking.{NumberRow, HasFile, HasNumber, HasRoot, HasSize, IsNumberIn, root}
 
 -- a text is the spelling of one number at most
 pub one_value : (text : Word) (a b : ℕ) → IsValue text a → IsValue text b → a ≡ b
@@ -15,7 +16,7 @@ too_small text least most found is small number number_is = let same = one_value
 pub too_great : (text : Word) (least most found : ℕ) → IsValue text found → most < found → (number : ℕ) → IsNumberIn least most text number → ⊥
 too_great text least most found is great number number_is = let same = one_value text number found number_is.0 is in omega (arith, same, number_is.2)
 
-module _ (row : Row) (values : Values) where
+module _ (row : NumberRow) (values : Values) where
   pub default_number : None ≡ value_of row.name values → HasNumber row values row.default
   default_number none = subst (λ o. MatchOption o (row.default ≡ row.default) (λ text. IsNumberIn row.least row.most text row.default)) none refl
 
@@ -26,12 +27,12 @@ module _ (row : Row) (values : Values) where
 
 module _ (place : Word) (values : Values) where
   pub no_size : None ≡ value_of place values → (n : ℕ) → HasSize place values n → ⊥
-  no_size none n has = subst (λ o. MatchOption o ⊥ (λ t. IsNumberIn 1 20 t n)) (sym none) has
+  no_size none n has = subst (λ o. MatchOption o ⊥ (λ t. IsNumberIn LEAST_SIZE MOST_SIZE t n)) (sym none) has
 
-  pub has_size : (text : Word) (found : Option ℕ) → Some text ≡ value_of place values → MatchOption found ((n : ℕ) → IsNumberIn 1 20 text n → ⊥) (IsNumberIn 1 20 text)
+  pub has_size : (text : Word) (found : Option ℕ) → Some text ≡ value_of place values → MatchOption found ((n : ℕ) → IsNumberIn LEAST_SIZE MOST_SIZE text n → ⊥) (IsNumberIn LEAST_SIZE MOST_SIZE text)
       → MatchOption found ((n : ℕ) → HasSize place values n → ⊥) (HasSize place values)
-  has_size text None is none = λ n has. none n (subst (λ o. MatchOption o ⊥ (λ t. IsNumberIn 1 20 t n)) (sym is) has)
-  has_size text (Some n) is found = subst (λ o. MatchOption o ⊥ (λ t. IsNumberIn 1 20 t n)) is found
+  has_size text None is none = λ n has. none n (subst (λ o. MatchOption o ⊥ (λ t. IsNumberIn LEAST_SIZE MOST_SIZE t n)) (sym is) has)
+  has_size text (Some n) is found = subst (λ o. MatchOption o ⊥ (λ t. IsNumberIn LEAST_SIZE MOST_SIZE t n)) is found
 
   pub no_file : None ≡ value_of place values → (name : Word) → HasFile place values name → ⊥
   no_file none name has = let e : None ≡ Some name = none ∙ has.0 in cc

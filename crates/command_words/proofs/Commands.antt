@@ -10,25 +10,32 @@ use Rattle.std.proofs.lemmas.Str.{IsUtf8-string_bytes}
 use Rattle.clap.specs.Matches.{first_value, found_of}
 use Rattle.clap.specs.Values.{kind_of}
 use Rattle.clap.specs.Walk.{Rule, first_of, is_early_multiple, rows_of}
-use Rattle.clap.specs.Simple.{App, HasMatchesOf, Shape, built, is_ready, is_simple, new_shape, with_rule}
+use Rattle.clap.specs.Simple.{App, HasMatchesOf, Shape, built, is_ready, is_simple, matches_of, new_shape, with_rule}
 use Rattle.clap.specs.Kinds.{HasKind}
 use Rattle.clap.specs.Faults.{fault_of, is_free_app, is_simple_and_free}
 use Rattle.clap.specs.declared.error.Error.{Error}
 use Rattle.clap.specs.declared.error.kind.ErrorKind.TheVariants.{OutOfMemory}
 use Rattle.clap.specs.declared.parser.matches.ArgMatches.{ArgMatches}
 use Rattle.clap.proofs.WalkLemmas.{first_value-rows}
-use Rattle.command_words.specs.Clap.{app, are_names, option_rule, place_rule}
-use Rattle.command_words.specs.Given.{Word, Values, Give, value_of}
+use Rattle.command_words.specs.Clap.{app, are_names, option_rule, place_rule, row_seen}
+use Rattle.command_words.specs.Given.{Word, Values, Row, Give, completed, value_of}
+use Rattle.command_words.specs.declared.options.OptionRow.{OptionRow}
 use Rattle.command_words.proofs.Rules.{built_option, built_place, built_rules, places_from, rules}
-use Rattle.command_words.proofs.Settling.{row, rows}
 use Rattle.command_words.proofs.Joined.{IsTaken, built_ready, named, ready, taken, takes}
 
 abbrev pub texts : List (Bor Word) → List Word
 texts = map (λ name. name.now)
 
+abbrev pub rows_seen : List OptionRow → List Row
+rows_seen = map row_seen
+
 map-texts : (f : Word → Rule) (all : List (Bor Word)) → map (λ name. f name.now) all ≡ map f (texts all)
 map-texts f [] = refl
 map-texts f (name ∷ all) = ap (λ rest. f name.now ∷ rest) (map-texts f all)
+
+map-rows : (all : List OptionRow) → map (λ row. option_rule (row_seen row)) all ≡ map option_rule (rows_seen all)
+map-rows [] = refl
+map-rows (row ∷ all) = ap (λ rest. option_rule (row_seen row) ∷ rest) (map-rows all)
 
 fold_rules : (s : Shape) (added : List Rule) → fold with_rule (record { top = s; subs = [] }) added ≡ record { top = record s { rules = s.rules ++ added }; subs = [] }
 fold_rules s [] = ap (λ all. record { top = record s { rules = all }; subs = [] }) (sym (append-nil s.rules))
@@ -38,13 +45,13 @@ fold_rules s (rule ∷ added) =
 abbrev pub bare : Word → App
 bare name = record { top = record (new_shape name) { disable_help_flag = true }; subs = [] }
 
-pub made : (name : Word) (options places : List (Bor Word)) (start half : App) → start ≡ bare name → half ≡ fold with_rule start (map (λ n. option_rule n.now) options)
-    → fold with_rule half (map (λ n. place_rule n.now) places) ≡ app name (texts options) (texts places)
+pub made : (name : Word) (options : List OptionRow) (places : List (Bor Word)) (start half : App) → start ≡ bare name → half ≡ fold with_rule start (map (λ row. option_rule (row_seen row)) options)
+    → fold with_rule half (map (λ n. place_rule n.now) places) ≡ app name (rows_seen options) (texts places)
 made name options places start half is made_half =
-    let first : half ≡ record { top = record (new_shape name) { disable_help_flag = true; rules = map option_rule (texts options) }; subs = [] } =
-    made_half ∙ (ap₂ (fold with_rule) is (map-texts option_rule options) ∙ fold_rules (record (new_shape name) { disable_help_flag = true }) (map option_rule (texts options))) in
+    let first : half ≡ record { top = record (new_shape name) { disable_help_flag = true; rules = map option_rule (rows_seen options) }; subs = [] } =
+    made_half ∙ (ap₂ (fold with_rule) is (map-rows options) ∙ fold_rules (record (new_shape name) { disable_help_flag = true }) (map option_rule (rows_seen options))) in
     ap₂ (fold with_rule) first (map-texts place_rule places)
-    ∙ fold_rules (record (new_shape name) { disable_help_flag = true; rules = map option_rule (texts options) }) (map place_rule (texts places))
+    ∙ fold_rules (record (new_shape name) { disable_help_flag = true; rules = map option_rule (rows_seen options) }) (map place_rule (texts places))
 
 -- ---- the command is simple
 
@@ -53,7 +60,7 @@ module _ (p : Rule → Bool) where
   all_places each i [] = refl
   all_places each i (place ∷ places) = and_from _ _ (each i place) (all_places each (i + 1) places)
 
-  all_built : ((option : Word) → p (built_option option) ≡ true) → ((i : ℕ) (place : Word) → p (built_place i place) ≡ true) → (options places : List Word) → list_all p (built_rules options places) ≡ true
+  all_built : ((option : Row) → p (built_option option) ≡ true) → ((i : ℕ) (place : Word) → p (built_place i place) ≡ true) → (options : List Row) (places : List Word) → list_all p (built_rules options places) ≡ true
   all_built option_is place_is [] places = all_places place_is 1 places
   all_built option_is place_is (option ∷ options) places = and_from _ _ (option_is option) (all_built option_is place_is options places)
 
@@ -61,7 +68,7 @@ module _ (p : Rule → Bool) where
   place_rules each [] = refl
   place_rules each (place ∷ places) = and_from _ _ (each place) (place_rules each places)
 
-  all_rules : ((option : Word) → p (option_rule option) ≡ true) → ((place : Word) → p (place_rule place) ≡ true) → (options places : List Word) → list_all p (rules options places) ≡ true
+  all_rules : ((option : Row) → p (option_rule option) ≡ true) → ((place : Word) → p (place_rule place) ≡ true) → (options : List Row) (places : List Word) → list_all p (rules options places) ≡ true
   all_rules option_is place_is [] places = place_rules place_is places
   all_rules option_is place_is (option ∷ options) places = and_from _ _ (option_is option) (all_rules option_is place_is options places)
 
@@ -69,18 +76,18 @@ early_places : (n i : ℕ) (places : List Word) → list_any (is_early_multiple 
 early_places n i [] = refl
 early_places n i (place ∷ places) = early_places n (i + 1) places
 
-early : (n : ℕ) (options places : List Word) → list_any (is_early_multiple n) (built_rules options places) ≡ false
+early : (n : ℕ) (options : List Row) (places : List Word) → list_any (is_early_multiple n) (built_rules options places) ≡ false
 early n [] places = early_places n 1 places
 early n (option ∷ options) places = early n options places
 
-simple_ready : (name : Word) (options places : List Word) → (is_ready (ready name options places).top && list_all (λ s. s.is_leaf && is_ready s) (ready name options places).subs) ≡ true
+simple_ready : (name : Word) (options : List Row) (places : List Word) → (is_ready (ready name options places).top && list_all (λ s. s.is_leaf && is_ready s) (ready name options places).subs) ≡ true
 simple_ready name options places =
     and_from _ true (and_from _ _ (all_built (λ a. a.is_simple) (λ option. refl) (λ i place. refl) options places) (ap not (early _ options places))) refl
 
-free_ready : (name : Word) (options places : List Word) → is_free_app (ready name options places) ≡ true
+free_ready : (name : Word) (options : List Row) (places : List Word) → is_free_app (ready name options places) ≡ true
 free_ready name options places = and_from _ true (all_built (λ a. a.is_free) (λ option. refl) (λ i place. refl) options places) refl
 
-module _ (name : Word) (options places : List Word) (are : are_names options places ≡ true) where
+module _ (name : Word) (options : List Row) (places : List Word) (are : are_names options places ≡ true) where
   is_built : built (app name options places) ≡ ready name options places
   is_built = built_ready name options places (named options places are).few
 
@@ -106,24 +113,15 @@ module _ (name : Word) (options places : List Word) (are : are_names options pla
     utf8 [] = tt
     utf8 (word ∷ all) = each_utf8 all
 
-    first_of-rows : (id : Word) (values : Values) → first_of id (rows values) ≡ value_of id values
-    first_of-rows id [] = refl
-    first_of-rows id (value ∷ values) = go (bytes_eq value.0 id) (first_of-rows id values)
-      where
-        go : (b : Bool) → first_of id (rows values) ≡ value_of id values
-            → option_and_then (λ r. slice_get r.values 0) (cond b (Some (row value)) (find (λ r. bytes_eq r.id id) (rows values))) ≡ option_map (λ v. v.1) (cond b (Some value) (find (λ v. bytes_eq v.0 id) values))
-        go true rest = refl
-        go false rest = rest
-
     -- clap takes the words
     module _ (m : ArgMatches) (made_app : App) (is : made_app ≡ app name options places) (has : HasMatchesOf made_app given_words m) (fine : fault_of made_app given_words ≡ []) where
       the_taken : IsTaken name options places (drop 1 given_words) [] (utf8 words) are
       the_taken = taken name options places (drop 1 given_words) [] (utf8 words) are (ap (λ a. fault_of a given_words) (sym is) ∙ fine)
 
-      pub gives : (values : Values) × Give options places (drop 1 given_words) values × ((id : Word) → first_value (found_of m) id ≡ value_of id values)
+      pub gives : (values : Values) × Give options places (drop 1 given_words) values × ((id : Word) → first_value (found_of m) id ≡ value_of id (completed options values))
       gives =
-          let matched : rows_of (found_of m) ≡ rows the_taken.values = (subst (λ a. HasMatchesOf a given_words m) is has simple).0 ∙ the_taken.matches in
-          (the_taken.values, the_taken.give, λ id. first_value-rows (found_of m) id ∙ (ap (first_of id) matched ∙ first_of-rows id the_taken.values))
+          let matched : rows_of (found_of m) ≡ matches_of (app name options places) given_words = (subst (λ a. HasMatchesOf a given_words m) is has simple).0 in
+          (the_taken.values, the_taken.give, λ id. first_value-rows (found_of m) id ∙ (ap (first_of id) matched ∙ the_taken.shows.first id))
 
     -- clap refuses the words, and not for want of memory
     pub refuses : (e : Error) (made_app : App) → made_app ≡ app name options places → HasKind (fault_of made_app given_words) e → kind_of e ≢ OutOfMemory → (values : Values) → Give options places (drop 1 given_words) values → ⊥

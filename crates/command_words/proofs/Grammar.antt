@@ -1,6 +1,6 @@
 -- The reading of words finds the arguments that they are spelled by, and no others.
 use Rattle.std.proofs.Common.{◌&&◌, ◌≡◌, ◌≢◌, ◌⊎◌, ℕ, zero, suc, Bool, cond, true, false, List, [], ◌∷◌, ◌++◌, map, Option, Some, None, refl, sym, ap, ap₂, ◌∙◌, subst, inl, inr, arith, nat_eq, unwrap_or}
-use Rattle.std.specs.Prelude.{option_and_then}
+use Rattle.std.specs.Prelude.{codes, option_and_then}
 use Rattle.std.specs.List.{AllByRecursion, filter_map, flat_map, list_any}
 use Rattle.std.specs.Str.{bytes_eq}
 use Rattle.std.proofs.lemmas.Bool.{true≢false, eqb-true, eqb-false, or_parts}
@@ -8,9 +8,8 @@ use Rattle.std.proofs.lemmas.Slice.Eq.{bytes_eq-Decides}
 use Rattle.clap.specs.Lexer.{long_of, long_of_rest, name_and_value, short_of, short_of_rest, strip_byte}
 use Rattle.clap.proofs.CutLemmas.{Lacks}
 use Rattle.clap.proofs.LexerLemmas.{name_and_value-at, name_and_value-without}
-use Rattle.command_words.specs.Given.{Word, Values, Argument, Pair, Joined, Placed, written, given, filled, is_dashed, IsProper, ending}
-use Rattle.command_words.proofs.Rules.{is_option, is_option-Decides}
-use Rattle.command_words.proofs.Reading.{Kind, Read, IsKind, kind, kind_is, marker, opening, whole, wrong, free, more, reading, short_kind, step, trailing}
+use Rattle.command_words.specs.Given.{Word, Values, Row, Argument, Pair, Joined, Flag, Placed, written, given, filled, is_dashed, takes_value_of, IsProper, ending}
+use Rattle.command_words.proofs.Reading.{Kind, Read, IsKind, kind, kind_is, marker, opening, whole, lone, wrong, free, more, reading, short_kind, step, trailing}
 
 -- ---- names and values in a word
 
@@ -121,7 +120,7 @@ pub record IsOptionName (name : Word) : Type 0 where
   pub lacks : Lacks 61 (head ∷ tail)
 
 -- words give these values, and leave these places
-pub record Part (options words places : List Word) (values : Values) (left : List Word) : Type 0 where
+pub record Part (options : List Row) (words places : List Word) (values : Values) (left : List Word) : Type 0 where
   pub arguments : List Argument
   pub rest : Option Values
   pub spelled : words ≡ flat_map written arguments ++ ending rest
@@ -139,7 +138,7 @@ short_one x = go (nat_eq x 45)
 short_two : (x y : ℕ) (rest : Word) → nat_eq x 45 ≡ false → short_of (x ∷ y ∷ rest) ≡ None
 short_two x y rest no_dash = rw no_dash refl
 
-free_of : (options : List Word) (word : Word) → is_dashed word ≡ false → kind options word ≡ free
+free_of : (options : List Row) (word : Word) → is_dashed word ≡ false → kind options word ≡ free
 free_of options [] no_dash = refl
 free_of options (x ∷ []) no_dash = go (nat_eq x 45) refl
   where
@@ -152,25 +151,39 @@ trailing_all : (rest : Values) (left : List Word) → trailing (map (λ value. v
 trailing_all [] left = refl
 trailing_all (value ∷ rest) left = ap (more value) (trailing_all rest left)
 
-kind_opening : (options : List Word) (word name : Word) → bytes_eq word (45 ∷ 45 ∷ []) ≡ false → long_of word ≡ Some (name, None) → is_option options name ≡ true → kind options word ≡ opening name
+kind_opening : (options : List Row) (word name : Word) → bytes_eq word (45 ∷ 45 ∷ []) ≡ false → long_of word ≡ Some (name, None) → takes_value_of options name ≡ Some true → kind options word ≡ opening name
 kind_opening options word name no_marker long among = rw (no_marker, long, among) refl
 
-kind_whole : (options : List Word) (word name value : Word) → bytes_eq word (45 ∷ 45 ∷ []) ≡ false → long_of word ≡ Some (name, Some value) → is_option options name ≡ true → kind options word ≡ whole name value
+kind_whole : (options : List Row) (word name value : Word) → bytes_eq word (45 ∷ 45 ∷ []) ≡ false → long_of word ≡ Some (name, Some value) → takes_value_of options name ≡ Some true → kind options word ≡ whole name value
 kind_whole options word name value no_marker long among = rw (no_marker, long, among) refl
 
-module _ (options : List Word) (names : (name : Word) → is_option options name ≡ true → IsOptionName name) where
-  opening_of : (name : Word) → is_option options name ≡ true → kind options (45 ∷ 45 ∷ name) ≡ opening name
+kind_lone : (options : List Row) (word name : Word) → bytes_eq word (45 ∷ 45 ∷ []) ≡ false → long_of word ≡ Some (name, None) → takes_value_of options name ≡ Some false → kind options word ≡ lone name
+kind_lone options word name no_marker long among = rw (no_marker, long, among) refl
+
+-- each option has a name
+abbrev pub AreOptionNames : List Row → Type 0
+AreOptionNames options = (name : Word) (takes_value : Bool) → takes_value_of options name ≡ Some takes_value → IsOptionName name
+
+module _ (options : List Row) (names : AreOptionNames options) where
+  opening_of : (name : Word) → takes_value_of options name ≡ Some true → kind options (45 ∷ 45 ∷ name) ≡ opening name
   opening_of name among =
-      let is = names name among in
+      let is = names name true among in
       let spelled : kind options (45 ∷ 45 ∷ is.head ∷ is.tail) ≡ opening (is.head ∷ is.tail) =
-      kind_opening options (45 ∷ 45 ∷ is.head ∷ is.tail) (is.head ∷ is.tail) refl (ap Some (name_and_value-without (is.head ∷ is.tail) is.lacks)) (subst (λ n. is_option options n ≡ true) is.name_is among) in
+      kind_opening options (45 ∷ 45 ∷ is.head ∷ is.tail) (is.head ∷ is.tail) refl (ap Some (name_and_value-without (is.head ∷ is.tail) is.lacks)) (subst (λ n. takes_value_of options n ≡ Some true) is.name_is among) in
       ap (λ n. kind options (45 ∷ 45 ∷ n)) is.name_is ∙ (spelled ∙ ap opening (sym is.name_is))
 
-  whole_of : (name value : Word) → is_option options name ≡ true → kind options (45 ∷ 45 ∷ (name ++ 61 ∷ value)) ≡ whole name value
+  lone_of : (name : Word) → takes_value_of options name ≡ Some false → kind options (45 ∷ 45 ∷ name) ≡ lone name
+  lone_of name among =
+      let is = names name false among in
+      let spelled : kind options (45 ∷ 45 ∷ is.head ∷ is.tail) ≡ lone (is.head ∷ is.tail) =
+      kind_lone options (45 ∷ 45 ∷ is.head ∷ is.tail) (is.head ∷ is.tail) refl (ap Some (name_and_value-without (is.head ∷ is.tail) is.lacks)) (subst (λ n. takes_value_of options n ≡ Some false) is.name_is among) in
+      ap (λ n. kind options (45 ∷ 45 ∷ n)) is.name_is ∙ (spelled ∙ ap lone (sym is.name_is))
+
+  whole_of : (name value : Word) → takes_value_of options name ≡ Some true → kind options (45 ∷ 45 ∷ (name ++ 61 ∷ value)) ≡ whole name value
   whole_of name value among =
-      let is = names name among in
+      let is = names name true among in
       let spelled : kind options (45 ∷ 45 ∷ ((is.head ∷ is.tail) ++ 61 ∷ value)) ≡ whole (is.head ∷ is.tail) value =
-      kind_whole options (45 ∷ 45 ∷ ((is.head ∷ is.tail) ++ 61 ∷ value)) (is.head ∷ is.tail) value refl (ap Some (name_and_value-at (is.head ∷ is.tail) value is.lacks)) (subst (λ n. is_option options n ≡ true) is.name_is among) in
+      kind_whole options (45 ∷ 45 ∷ ((is.head ∷ is.tail) ++ 61 ∷ value)) (is.head ∷ is.tail) value refl (ap Some (name_and_value-at (is.head ∷ is.tail) value is.lacks)) (subst (λ n. takes_value_of options n ≡ Some true) is.name_is among) in
       ap (λ n. kind options (45 ∷ 45 ∷ (n ++ 61 ∷ value))) is.name_is ∙ (spelled ∙ ap (λ n. whole n value) (sym is.name_is))
 
   reads : (arguments : List Argument) (rest : Option Values) (left : List Word) → AllByRecursion (IsProper options) arguments
@@ -178,13 +191,14 @@ module _ (options : List Word) (names : (name : Word) → is_option options name
   reads [] None left proper = refl
   reads [] (Some rest) left proper = trailing_all rest left
   reads (Pair name value ∷ arguments) rest left proper =
-      let among = (is_option-Decides options name).1 proper.0.0 in
       let behind = reads arguments rest left proper.1 in
-      rw (opening_of name among, free_of options value proper.0.1) (ap (more (name, value)) behind)
+      rw (opening_of name proper.0.0, free_of options value proper.0.1) (ap (more (name, value)) behind)
   reads (Joined name value ∷ arguments) rest left proper =
-      let among = (is_option-Decides options name).1 proper.0 in
       let behind = reads arguments rest left proper.1 in
-      rw (whole_of name value among) (ap (more (name, value)) behind)
+      rw (whole_of name value proper.0) (ap (more (name, value)) behind)
+  reads (Flag name ∷ arguments) rest left proper =
+      let behind = reads arguments rest left proper.1 in
+      rw (lone_of name proper.0) (ap (more (name, codes "true")) behind)
   reads (Placed place value ∷ arguments) rest left proper =
       let behind = reads arguments rest left proper.1 in
       rw (free_of options value proper.0) (ap (more (place, value)) behind)
@@ -216,7 +230,7 @@ trailing_part (word ∷ words) (place ∷ places) values left is =
     let behind = trailing_part words places parts.0 left parts.1 in
     (ap (λ ws. word ∷ ws) behind.0 ∙ ap (map (λ value. value.1)) (sym parts.2), ap (λ vs. map (λ value. value.0) vs ++ left) parts.2 ∙ ap (λ ps. place ∷ ps) behind.1)
 
-module _ (options : List Word) where
+module _ (options : List Row) where
   marked : (words places left : List Word) (values : Values) → IsTrailing words places values left → Part options ((45 ∷ 45 ∷ []) ∷ words) places values left
   marked words places left values is = record { arguments = []; rest = Some values; spelled = ap (λ ws. (45 ∷ 45 ∷ []) ∷ ws) is.0; proper = tt; gives = refl; in_places = is.1 }
 
@@ -231,23 +245,33 @@ module _ (options : List Word) where
       in_places = ap (λ ps. place ∷ ps) part.in_places;
     }
 
-    with_pair : (name value : Word) → is_option options name ≡ true → is_dashed value ≡ false → Part options ((45 ∷ 45 ∷ name) ∷ value ∷ words) places ((name, value) ∷ values) left
+    with_pair : (name value : Word) → takes_value_of options name ≡ Some true → is_dashed value ≡ false → Part options ((45 ∷ 45 ∷ name) ∷ value ∷ words) places ((name, value) ∷ values) left
     with_pair name value among no_dash = record {
       arguments = Pair name value ∷ part.arguments;
       rest = part.rest;
       spelled = ap (λ ws. (45 ∷ 45 ∷ name) ∷ value ∷ ws) part.spelled;
-      proper = (((is_option-Decides options name).0 among, no_dash), part.proper);
+      proper = ((among, no_dash), part.proper);
       gives = ap (λ vs. (name, value) ∷ vs) part.gives;
       in_places = part.in_places;
     }
 
-    with_joined : (name value : Word) → is_option options name ≡ true → Part options ((45 ∷ 45 ∷ (name ++ 61 ∷ value)) ∷ words) places ((name, value) ∷ values) left
+    with_joined : (name value : Word) → takes_value_of options name ≡ Some true → Part options ((45 ∷ 45 ∷ (name ++ 61 ∷ value)) ∷ words) places ((name, value) ∷ values) left
     with_joined name value among = record {
       arguments = Joined name value ∷ part.arguments;
       rest = part.rest;
       spelled = ap (λ ws. (45 ∷ 45 ∷ (name ++ 61 ∷ value)) ∷ ws) part.spelled;
-      proper = ((is_option-Decides options name).0 among, part.proper);
+      proper = (among, part.proper);
       gives = ap (λ vs. (name, value) ∷ vs) part.gives;
+      in_places = part.in_places;
+    }
+
+    with_flag : (name : Word) → takes_value_of options name ≡ Some false → Part options ((45 ∷ 45 ∷ name) ∷ words) places ((name, codes "true") ∷ values) left
+    with_flag name among = record {
+      arguments = Flag name ∷ part.arguments;
+      rest = part.rest;
+      spelled = ap (λ ws. (45 ∷ 45 ∷ name) ∷ ws) part.spelled;
+      proper = (among, part.proper);
+      gives = ap (λ vs. (name, codes "true") ∷ vs) part.gives;
       in_places = part.in_places;
     }
 
@@ -280,6 +304,10 @@ module _ (options : List Word) where
         let parts = more_some (name, value) (reading options words places None) values left read in
         let whole_part : Part options ((45 ∷ 45 ∷ (name ++ 61 ∷ value)) ∷ words) places ((name, value) ∷ parts.0) left = with_joined words places left parts.0 (idles places parts.0 left parts.1) name value is.2 in
         subst (λ w. Part options (w ∷ words) places values left) (sym (whole_word word name value is.1)) (subst (λ vs. Part options ((45 ∷ 45 ∷ (name ++ 61 ∷ value)) ∷ words) places vs left) (sym parts.2) whole_part)
+    idle_part (lone name) is places values left read =
+        let parts = more_some (name, codes "true") (reading options words places None) values left read in
+        let whole_part : Part options ((45 ∷ 45 ∷ name) ∷ words) places ((name, codes "true") ∷ parts.0) left = with_flag words places left parts.0 (idles places parts.0 left parts.1) name is.2 in
+        subst (λ w. Part options (w ∷ words) places values left) (sym (opening_word word name is.1)) (subst (λ vs. Part options ((45 ∷ 45 ∷ name) ∷ words) places vs left) (sym parts.2) whole_part)
     idle_part wrong is places values left read = let n : ◌≡◌ {A = Read} None (Some (values, left)) = read in absurd (cc)
     idle_part free is [] values left read = let n : ◌≡◌ {A = Read} None (Some (values, left)) = read in absurd (cc)
     idle_part free is (place ∷ places) values left read =
@@ -290,6 +318,7 @@ module _ (options : List Word) where
     waiting_part marker is places name values left read = let n : ◌≡◌ {A = Read} None (Some (values, left)) = read in absurd (cc)
     waiting_part (opening other) is places name values left read = let n : ◌≡◌ {A = Read} None (Some (values, left)) = read in absurd (cc)
     waiting_part (whole other value) is places name values left read = let n : ◌≡◌ {A = Read} None (Some (values, left)) = read in absurd (cc)
+    waiting_part (lone other) is places name values left read = let n : ◌≡◌ {A = Read} None (Some (values, left)) = read in absurd (cc)
     waiting_part wrong is places name values left read = let n : ◌≡◌ {A = Read} None (Some (values, left)) = read in absurd (cc)
     waiting_part free is places name values left read =
         let parts = more_some (name, word) (reading options words places None) values left read in

@@ -4,6 +4,7 @@ pub mod Settling
 pub mod Flags
 pub mod Walking
 pub mod Grammar
+pub mod Defaults
 pub mod Joined
 pub mod Commands
 pub mod Asked

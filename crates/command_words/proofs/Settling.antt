@@ -1,6 +1,6 @@
 -- What clap makes of the value that it holds, when the next argument begins or the words end.
 use Rattle.std.proofs.Common.{◌≡◌, ◌≢◌, ◌&&◌, ◌||◌, ℕ, Bool, cond, true, false, List, [], ◌∷◌, ◌++◌, map, Option, Some, None, is_some, refl, sym, ap, ◌∙◌, append_assoc, append-nil}
-use Rattle.std.specs.Prelude.{find, option_map}
+use Rattle.std.specs.Prelude.{find, option_map, codes}
 use Rattle.std.specs.Str.{bytes_eq}
 use Rattle.std.proofs.lemmas.Bool.{true≢false}
 use Rattle.clap.specs.Values.{reading_of}
@@ -12,7 +12,7 @@ use Rattle.clap.specs.declared.builder.action.ArgAction.TheVariants.{Set}
 use Rattle.clap.specs.declared.builder.value_parser.ValueParser.TheVariants as parser
 use Rattle.clap.specs.declared.error.kind.ErrorKind.TheVariants as kind
 use Rattle.clap.specs.declared.parser.matches.ValueSource.TheVariants.{CommandLine}
-use Rattle.command_words.specs.Given.{Word, Values, value_of}
+use Rattle.command_words.specs.Given.{Word, Values, flag, valued, value_of}
 use Rattle.command_words.proofs.Rules.{built_option, built_place}
 use Rattle.command_words.proofs.Reading.{Read, more}
 
@@ -27,7 +27,7 @@ single long index required name = record (new_rule name) {
   parser = Some parser.String;
 }
 
-pub option_single : (name : Word) → built_option name ≡ single (Some name) None false name
+pub option_single : (name : Word) → built_option (valued name) ≡ single (Some name) None false name
 option_single name = refl
 
 pub place_single : (i : ℕ) (name : Word) → built_place i name ≡ single None (Some i) true name
@@ -87,6 +87,18 @@ module _ (long : Option Word) (index : Option ℕ) (required : Bool) (name value
   pub used_single : value_of name values ≡ None → used (single long index required name) (value ∷ []) (rows values) ≡ rows (values ++ (name, value) ∷ [])
   used_single new = one_more values name value new
 
+-- a flag is used
+pub use_flag : (name : Word) (values : Values) → use_fault false (built_option (flag name)) [] (rows values) ≡ repeated (value_of name values)
+use_flag name values = rw has_row-rows (go (value_of name values))
+  where
+    go : (o : Option Word) → or_else (cond (is_some o && true) (kind.ArgumentConflict ∷ []) []) [] ≡ repeated o
+    go None = refl
+    go (Some v) = refl
+
+-- what is held when a flag was used
+abbrev pub flagged : Word → Held → Held
+flagged name h = record h { rows = used (built_option (flag name)) [] h.rows; pending = None }
+
 pub use_nothing : (long : Option Word) (index : Option ℕ) (required : Bool) (name : Word) (all : List Row) → use_fault false (single long index required name) [] all ≡ kind.InvalidValue ∷ []
 use_nothing long index required name all = refl
 
@@ -124,32 +136,40 @@ module _ (c : List Rule) where
   settled_known name value values known new = rw known.3 (ap (λ rs. record { rows = rs; pending = None; skip = 0 }) (used_single known.0 known.1 known.2 name value values new))
 
   -- the fault stays where the value was new, and else the value repeats a name
-  module _ (before : Values) (name value : Word) (read : Read) (rest : Held → Kinds) (end : Held → Held) (known : IsKnown name)
-      (next : (now : Values) → Outcome now read (rest (held now None)) (end (held now None))) where
-    old : (o : Option Word) → value_of name before ≡ o → Outcome before (more (name, value) read)
-        (or_else (repeated o) (rest (settled c (held before (Some (name, value)))))) (end (settled c (held before (Some (name, value)))))
-    old None new = rw (settled_known name value before known new) (new_value read (next (before ++ (name, value) ∷ [])))
+  module _ (before : Values) (name value : Word) (read : Read) (rest : Held → Kinds) (end : Held → Held) (now : Held)
+      (becomes : value_of name before ≡ None → now ≡ held (before ++ (name, value) ∷ []) None)
+      (next : (later : Values) → Outcome later read (rest (held later None)) (end (held later None))) where
+    pub after_value : (o : Option Word) → value_of name before ≡ o → Outcome before (more (name, value) read) (or_else (repeated o) (rest now)) (end now)
+    after_value None new = rw (becomes new) (new_value read (next (before ++ (name, value) ∷ [])))
       where
-        now : Held
-        now = held (before ++ (name, value) ∷ []) None
-
         new_value : (r : Read) → Outcome (before ++ (name, value) ∷ []) r (rest (held (before ++ (name, value) ∷ []) None)) (end (held (before ++ (name, value) ∷ []) None))
             → Outcome before (more (name, value) r) (rest (held (before ++ (name, value) ∷ []) None)) (end (held (before ++ (name, value) ∷ []) None))
         new_value None fails = fails
         new_value (Some r) (fresh, passes) =
             (λ none. (new, fresh none), λ is. let done = passes is.1 in (done.0, done.1 ∙ ap (λ vs. held vs None) (append_assoc before ((name, value) ∷ []) r.0)))
-    old (Some v) is = twice read
+    after_value (Some v) is = twice read
       where
         fault_none : ◌≡◌ {A = Kinds} (kind.ArgumentConflict ∷ []) [] → ⊥
         fault_none e = cc
 
-        twice : (r : Read) → Outcome before (more (name, value) r) (kind.ArgumentConflict ∷ []) (end (settled c (held before (Some (name, value)))))
+        twice : (r : Read) → Outcome before (more (name, value) r) (kind.ArgumentConflict ∷ []) (end now)
         twice None = λ none. fault_none none
         twice (Some r) = (λ none. absurd (fault_none none), λ fresh. (let same : Some v ≡ None = sym is ∙ fresh.0 in cc))
 
+  module _ (before : Values) (name value : Word) (read : Read) (rest : Held → Kinds) (end : Held → Held) (known : IsKnown name)
+      (next : (now : Values) → Outcome now read (rest (held now None)) (end (held now None))) where
     pub after_known : Outcome before (more (name, value) read)
         (or_else (settle_fault c false (held before (Some (name, value)))) (rest (settled c (held before (Some (name, value)))))) (end (settled c (held before (Some (name, value)))))
-    after_known = rw (settle_known name value before known) (old (value_of name before) refl)
+    after_known = rw (settle_known name value before known)
+        (after_value before name value read rest end (settled c (held before (Some (name, value)))) (settled_known name value before known) next (value_of name before) refl)
+
+  pub after_flag : (before : Values) (name : Word) (read : Read) (rest : Held → Kinds) (end : Held → Held)
+      → ((now : Values) → Outcome now read (rest (held now None)) (end (held now None)))
+      → Outcome before (more (name, codes "true") read) (or_else (use_fault false (built_option (flag name)) [] (rows before)) (rest (flagged name (held before None)))) (end (flagged name (held before None)))
+  after_flag before name read rest end next =
+      rw (use_flag name before)
+      (after_value before name (codes "true") read rest end (flagged name (held before None))
+      (λ new. ap (λ all. record { rows = all; pending = None; skip = 0 }) (one_more before name (codes "true") new)) next (value_of name before) refl)
 
   pub after_settled : (before : Values) (pending : Option (Word × Word)) (read : Read) (rest : Held → Kinds) (end : Held → Held) → Known pending
       → ((now : Values) → Outcome now read (rest (held now None)) (end (held now None)))

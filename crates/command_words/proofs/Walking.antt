@@ -1,6 +1,6 @@
 -- Clap's walk over the words of a command is their reading.
 use Rattle.std.proofs.Common.{◌≡◌, ◌≢◌, ◌||◌, ◌+◌, ◌<◌, ℕ, Bool, true, false, List, [], ◌∷◌, ◌++◌, length, min, fold, Option, Some, None, refl, sym, ap, ap₂, ◌∙◌, subst, append_assoc, append-nil, inl, inr, arith, length-append}
-use Rattle.std.specs.Prelude.{slice_get}
+use Rattle.std.specs.Prelude.{slice_get, codes}
 use Rattle.std.specs.List.{AllByRecursion}
 use Rattle.std.specs.Str.{bytes_eq, chars, IsUtf8}
 use Rattle.std.proofs.lemmas.Bool.{and_right}
@@ -12,11 +12,11 @@ use Rattle.clap.specs.Kinds.{Kinds, or_else}
 use Rattle.clap.specs.Faults.{flags_fault, other_fault, react_fault, settle_fault, step_fault, turn_fault, use_fault, walk_fault}
 use Rattle.clap.specs.declared.error.kind.ErrorKind.{ErrorKind}
 use Rattle.clap.specs.declared.error.kind.ErrorKind.TheVariants as error
-use Rattle.command_words.specs.Given.{Word, Values}
+use Rattle.command_words.specs.Given.{Word, Values, Row, flag, takes_value_of, valued as valued_row}
 use Rattle.command_words.proofs.Flags.{short_parts, first_flag}
-use Rattle.command_words.proofs.Rules.{built_option, built_place, built_rules, first_place, is_option, by_id, by_index, by_long, by_short, option_by_id}
-use Rattle.command_words.proofs.Reading.{Kind, Read, IsKind, kind, kind_is, marker, opening, whole, wrong, free, more, reading, step, trailing}
-use Rattle.command_words.proofs.Settling.{Outcome, Known, IsKnown, held, with_pending, after_settled, use_nothing}
+use Rattle.command_words.proofs.Rules.{built_option, built_place, built_rules, first_place, is_among, row_names, by_id, by_index, by_long, by_short, option_by_id}
+use Rattle.command_words.proofs.Reading.{Kind, Read, IsKind, IsMisnamed, kind, kind_is, marker, opening, whole, lone, wrong, free, more, reading, step, trailing}
+use Rattle.command_words.proofs.Settling.{Outcome, Known, IsKnown, flagged, held, with_pending, after_flag, after_settled, use_nothing}
 
 pub or_else_assoc : (a b d : Kinds) → or_else (or_else a b) d ≡ or_else a (or_else b d)
 or_else_assoc [] b d = refl
@@ -44,11 +44,11 @@ second_stays [] b some none = some none
 second_stays (k ∷ ks) b some none = some_fault k ks none
 
 -- places that are apart from the options and from each other
-pub record AreApart (options places : List Word) : Type 0 where
+pub record AreApart (options : List Row) (places : List Word) : Type 0 where
   pub few : length places < 10
-  pub apart : (used left : List Word) (place : Word) → used ++ place ∷ left ≡ places → (is_option options place ≡ false) × (is_option used place ≡ false)
+  pub apart : (used left : List Word) (place : Word) → used ++ place ∷ left ≡ places → (is_among (row_names options) place ≡ false) × (is_among used place ≡ false)
 
-module _ (base : Shape) (options places : List Word) where
+module _ (base : Shape) (options : List Row) (places : List Word) where
   abbrev pub c : List Rule
   c = built_rules options places
 
@@ -109,8 +109,8 @@ module _ (base : Shape) (options places : List Word) where
     marker_walked_waiting name is = rw is refl
 
     module _ (not_marker : bytes_eq word (45 ∷ 45 ∷ []) ≡ false) where
-      -- an option begins
-      module _ (name : Word) (among : is_option options name ≡ true) where
+      -- an option with a value begins
+      module _ (name : Word) (among : takes_value_of options name ≡ Some true) where
         pub opening_turn : long_of word ≡ Some (name, None) → turn_fault top [] (at h idle position false) word ≡ or_else (settle_fault c false h) []
         opening_turn long = rw (not_marker, long, by_long options places name, among) refl
 
@@ -119,17 +119,32 @@ module _ (base : Shape) (options places : List Word) where
         opening_walked long = rw (not_marker, long, by_long options places name, among) refl
 
         pub whole_turn : (given : Word) → long_of word ≡ Some (name, Some given) → turn_fault top [] (at h idle position false) word ≡ or_else (settle_fault c false h) (settle_fault c false (valued name given (settled c h)))
-        whole_turn given long = rw (not_marker, long, by_long options places name, among, option_by_id options places name among) (or_else-nil _)
+        whole_turn given long = rw (not_marker, long, by_long options places name, among, option_by_id options places name true among) (or_else-nil _)
 
         pub whole_walked : (given : Word) → long_of word ≡ Some (name, Some given) → walked c [] (at h idle position false) word ≡ at (settled c (valued name given (settled c h))) idle position false
         unfolding walked
-        whole_walked given long = rw (not_marker, long, by_long options places name, among, option_by_id options places name among) refl
+        whole_walked given long = rw (not_marker, long, by_long options places name, among, option_by_id options places name true among) refl
 
         pub opening_fault : (waiting : Word) → long_of word ≡ Some (name, None) → other_fault top None word h ≡ settle_fault c false h
         opening_fault waiting long = rw (not_marker, long, by_long options places name, among) refl
 
-        pub whole_fault : (given : Word) → long_of word ≡ Some (name, Some given) → other_fault top None word h ≡ react_fault c false (built_option name) (given ∷ []) h
+        pub whole_fault : (given : Word) → long_of word ≡ Some (name, Some given) → other_fault top None word h ≡ react_fault c false (built_option (valued_row name)) (given ∷ []) h
         whole_fault given long = rw (not_marker, long, by_long options places name, among) refl
+
+      -- a flag
+      module _ (name : Word) (among : takes_value_of options name ≡ Some false) where
+        pub lone_turn : long_of word ≡ Some (name, None) → turn_fault top [] (at h idle position false) word ≡ or_else (settle_fault c false h) (use_fault false (built_option (flag name)) [] (settled c h).rows)
+        lone_turn long = rw (not_marker, long, by_long options places name, among) (or_else-nil _)
+
+        pub lone_walked : long_of word ≡ Some (name, None) → walked c [] (at h idle position false) word ≡ at (flagged name (settled c h)) idle position false
+        unfolding walked
+        lone_walked long = rw (not_marker, long, by_long options places name, among) refl
+
+        pub lone_fault : long_of word ≡ Some (name, None) → other_fault top None word h ≡ react_fault c false (built_option (flag name)) [] h
+        lone_fault long = rw (not_marker, long, by_long options places name, among) refl
+
+        pub needless_fault : (given : Word) → long_of word ≡ Some (name, Some given) → other_fault top None word h ≡ error.TooManyValues ∷ []
+        needless_fault given long = rw (not_marker, long, by_long options places name, among) refl
 
       -- a word that is no option
       module _ (long : long_of word ≡ None) (short : short_of word ≡ None) where
@@ -143,7 +158,7 @@ module _ (base : Shape) (options places : List Word) where
         pub value_turn : (name : Word) → turn_fault top [] (at h (option name) position false) word ≡ []
         value_turn name = rw (not_marker, long, short) refl
 
-      pub unknown_fault : (p : Word × Option Word) → long_of word ≡ Some p → is_option options p.0 ≡ false → other_fault top None word h ≡ error.UnknownArgument ∷ []
+      pub unknown_fault : (p : Word × Option Word) → long_of word ≡ Some p → takes_value_of options p.0 ≡ None → other_fault top None word h ≡ error.UnknownArgument ∷ []
       unknown_fault p long none = rw (not_marker, long, by_long options places p.0, none) refl
 
   -- a word that is refused
@@ -152,8 +167,14 @@ module _ (base : Shape) (options places : List Word) where
   flags_wrong [] tail head first h are is = absurd (cc)
   flags_wrong (x ∷ flags) tail head first h are is = rw (is, by_short options places first) refl
 
+  misnamed_fault : (word : Word) (h : Held) → bytes_eq word (45 ∷ 45 ∷ []) ≡ false → (name : Word) (value : Option Word) → long_of word ≡ Some (name, value) → IsMisnamed options name value
+      → other_fault top None word h ≢ []
+  misnamed_fault word h not_marker name None long unknown fine = some_fault _ _ (sym (unknown_fault word 0 h not_marker (name, None) long unknown) ∙ fine)
+  misnamed_fault word h not_marker name (Some value) long (inl unknown) fine = some_fault _ _ (sym (unknown_fault word 0 h not_marker (name, Some value) long unknown) ∙ fine)
+  misnamed_fault word h not_marker name (Some value) long (inr needless) fine = some_fault _ _ (sym (needless_fault word 0 h not_marker name needless value long) ∙ fine)
+
   pub wrong_fault : (word : Word) (h : Held) → h.skip ≡ 0 → IsUtf8 word → IsKind options word wrong → other_fault top None word h ≢ []
-  wrong_fault word h none utf8 (not_marker, inl (p, long, unknown)) fine = some_fault _ _ (sym (unknown_fault word 0 h not_marker p long unknown) ∙ fine)
+  wrong_fault word h none utf8 (not_marker, inl (p, long, misnamed)) fine = misnamed_fault word h not_marker p.0 p.1 long misnamed fine
   wrong_fault word h none utf8 (not_marker, inr (long, (flags, short))) fine =
       let parts = short_parts word flags short in
       let found = first_flag word flags utf8 parts in
@@ -161,10 +182,10 @@ module _ (base : Shape) (options places : List Word) where
       rw (not_marker, long, short, none) (flags_wrong flags parts.tail parts.head found.first (record h { skip = 0 }) parts.flags_are found.first_is) in
       some_fault _ _ (sym is ∙ fine)
 
-  pub value_walked : (word name : Word) (position : ℕ) (before : Values) → is_option options name ≡ true → bytes_eq word (45 ∷ 45 ∷ []) ≡ false → long_of word ≡ None → short_of word ≡ None
+  pub value_walked : (word name : Word) (position : ℕ) (before : Values) → takes_value_of options name ≡ Some true → bytes_eq word (45 ∷ 45 ∷ []) ≡ false → long_of word ≡ None → short_of word ≡ None
       → walked c [] (at (opened name (held before None)) (option name) position false) word ≡ at (held before (Some (name, word))) idle position false
   unfolding walked
-  value_walked word name position before among not_marker long short = rw (not_marker, long, short, option_by_id options places name among, (bytes_eq-Decides name name).1 refl) refl
+  value_walked word name position before among not_marker long short = rw (not_marker, long, short, option_by_id options places name true among, (bytes_eq-Decides name name).1 refl) refl
 
   -- a word behind `--`
   pub trailing_turn : (word : Word) (waiting : Waiting) (position : ℕ) (h : Held) → turn_fault top [] (at h waiting position true) word ≡ step_fault top position h in_place
@@ -178,8 +199,8 @@ module _ (base : Shape) (options places : List Word) where
   stray position h none = rw none refl
 
   -- an option that waits has no value
-  pub unfed : (name : Word) (before : Values) → is_option options name ≡ true → settle_fault c false (opened name (held before None)) ≡ error.InvalidValue ∷ []
-  unfed name before among = rw (option_by_id options places name among) (use_nothing (Some name) None false name (held before None).rows)
+  pub unfed : (name : Word) (before : Values) → takes_value_of options name ≡ Some true → settle_fault c false (opened name (held before None)) ≡ error.InvalidValue ∷ []
+  unfed name before among = rw (option_by_id options places name true among) (use_nothing (Some name) None false name (held before None).rows)
 
   -- the position behind the places that are filled
   abbrev pub behind : List Word → ℕ
@@ -215,8 +236,8 @@ module _ (base : Shape) (options places : List Word) where
         let other = are.apart used left place all in
         (None, Some (behind used), true, ap (λ names. arg_by_id (built_rules options names) place) (sym all) ∙ by_id options used left place other.0 other.1)
 
-    option_known : (name : Word) → is_option options name ≡ true → IsKnown c name
-    option_known name among = (Some name, None, false, option_by_id options places name among)
+    option_known : (name : Word) → takes_value_of options name ≡ Some true → IsKnown c name
+    option_known name among = (Some name, None, false, option_by_id options places name true among)
 
     moved : (used left : List Word) (place : Word) → used ++ place ∷ left ≡ places → (used ++ place ∷ []) ++ left ≡ places
     moved used left place all = append_assoc used (place ∷ []) left ∙ all
@@ -257,7 +278,7 @@ module _ (base : Shape) (options places : List Word) where
         (λ now. trails words now (Some (place, word)) (used ++ place ∷ []) left idle (moved used left place all) (place_known used left place all))
 
     -- behind `--`, where an option waits for its value
-    never : (words : List Word) (before : Values) (name : Word) (used left : List Word) (waiting : Waiting) → used ++ left ≡ places → is_option options name ≡ true
+    never : (words : List Word) (before : Values) (name : Word) (used left : List Word) (waiting : Waiting) → used ++ left ≡ places → takes_value_of options name ≡ Some true
         → fault_from (at (opened name (held before None)) waiting (behind used) true) words ≢ []
     never [] before name used left waiting all among = λ none. some_fault _ _ (sym (no_word (at (opened name (held before None)) waiting (behind used) true) ∙ unfed name before among) ∙ none)
     never (word ∷ words) before name used [] waiting all among =
@@ -276,7 +297,7 @@ module _ (base : Shape) (options places : List Word) where
         → Outcome c before (with_pending pending (reading options words left None)) (fault_from (at (held before pending) idle (behind used) false) words) (end_from (at (held before pending) idle (behind used) false) words)
 
     abbrev StandsWaiting : List Word → Type 0
-    StandsWaiting words = (before : Values) (name : Word) (used left : List Word) → used ++ left ≡ places → is_option options name ≡ true
+    StandsWaiting words = (before : Values) (name : Word) (used left : List Word) → used ++ left ≡ places → takes_value_of options name ≡ Some true
         → Outcome c before (reading options words left (Some name)) (fault_from (at (opened name (held before None)) (option name) (behind used) false) words) (end_from (at (opened name (held before None)) (option name) (behind used) false) words)
 
     module _ (word : Word) (words : List Word) (utf8 : IsUtf8 word) (idles : StandsIdle words) (waits : StandsWaiting words) where
@@ -309,6 +330,18 @@ module _ (base : Shape) (options places : List Word) where
           (λ k. end_from (at (settled c (valued name given k)) idle (behind used) false) words) known
           (λ now. after_settled c now (Some (name, given)) read (λ k. fault_from (at k idle (behind used) false) words) (λ k. end_from (at k idle (behind used) false) words) (option_known name is.2)
           (λ later. idles later None used left all tt)))
+      idle_word (lone name) is before pending used left all known =
+          let h : Held = held before pending in
+          let walk_to : walked c [] (at h idle (behind used) false) word ≡ at (flagged name (settled c h)) idle (behind used) false = lone_walked word (behind used) h is.0 name is.2 is.1 in
+          let read : Read = reading options words left None in
+          outcome_as before (with_pending pending (more (name, codes "true") read)) _ _ _ _
+          (turned (at h idle (behind used) false) (at (flagged name (settled c h)) idle (behind used) false) word words (settle_fault c false h) (use_fault false (built_option (flag name)) [] (settled c h).rows)
+          (lone_turn word (behind used) h is.0 name is.2 is.1) walk_to)
+          (ap (λ w. end_from w words) walk_to)
+          (after_settled c before pending (more (name, codes "true") read) (λ k. or_else (use_fault false (built_option (flag name)) [] k.rows) (fault_from (at (flagged name k) idle (behind used) false) words))
+          (λ k. end_from (at (flagged name k) idle (behind used) false) words) known
+          (λ now. after_flag c now name read (λ k. fault_from (at k idle (behind used) false) words) (λ k. end_from (at k idle (behind used) false) words)
+          (λ later. idles later None used left all tt)))
       idle_word wrong is before pending used left all known =
           let h : Held = held before pending in
           refused before pending _ _ (fails (at h idle (behind used) false) word words (faults_stay (other_fault top None word h) _ (wrong_fault word h refl utf8 is)))
@@ -321,7 +354,7 @@ module _ (base : Shape) (options places : List Word) where
           goes word place words used left all before pending known idle false (free_turn word (behind used) h is.0 is.1 is.2) (free_walked word (behind used) h is.0 is.1 is.2) (reading options words left None)
           (λ now. idles now (Some (place, word)) (used ++ place ∷ []) left (moved used left place all) (place_known used left place all))
 
-      waiting_word : (k : Kind) → IsKind options word k → (before : Values) (name : Word) (used left : List Word) → used ++ left ≡ places → is_option options name ≡ true
+      waiting_word : (k : Kind) → IsKind options word k → (before : Values) (name : Word) (used left : List Word) → used ++ left ≡ places → takes_value_of options name ≡ Some true
           → Outcome c before (step k (Some name) word words left (reading options words)) (fault_from (at (opened name (held before None)) (option name) (behind used) false) (word ∷ words))
           (end_from (at (opened name (held before None)) (option name) (behind used) false) (word ∷ words))
       waiting_word marker is before name used left all among =
@@ -334,7 +367,11 @@ module _ (base : Shape) (options places : List Word) where
           fails (at h (option name) (behind used) false) word words (faults_stay (other_fault top None word h) _ (λ none. some_fault _ _ (sym fault ∙ none)))
       waiting_word (whole other given) is before name used left all among =
           let h : Held = opened name (held before None) in
-          let fault : other_fault top None word h ≡ error.InvalidValue ∷ [] = whole_fault word (behind used) h is.0 other is.2 given is.1 ∙ ap (λ first. or_else first (use_fault false (built_option other) (given ∷ []) (settled c h).rows)) (unfed name before among) in
+          let fault : other_fault top None word h ≡ error.InvalidValue ∷ [] = whole_fault word (behind used) h is.0 other is.2 given is.1 ∙ ap (λ first. or_else first (use_fault false (built_option (valued_row other)) (given ∷ []) (settled c h).rows)) (unfed name before among) in
+          fails (at h (option name) (behind used) false) word words (faults_stay (other_fault top None word h) _ (λ none. some_fault _ _ (sym fault ∙ none)))
+      waiting_word (lone other) is before name used left all among =
+          let h : Held = opened name (held before None) in
+          let fault : other_fault top None word h ≡ error.InvalidValue ∷ [] = lone_fault word (behind used) h is.0 other is.2 is.1 ∙ ap (λ first. or_else first (use_fault false (built_option (flag other)) [] (settled c h).rows)) (unfed name before among) in
           fails (at h (option name) (behind used) false) word words (faults_stay (other_fault top None word h) _ (λ none. some_fault _ _ (sym fault ∙ none)))
       waiting_word wrong is before name used left all among =
           let h : Held = opened name (held before None) in

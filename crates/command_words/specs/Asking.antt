@@ -1,7 +1,8 @@
 -- What the words after the program's name ask for.
 use Rattle.std.specs.Prelude.{◌≡◌, ◌≢◌, ◌≤◌, ℕ, List, [], ◌∷◌, Option, Some, MatchOption, codes}
 use Rattle.ascii_text.specs.Numbers.{IsValue}
-use Rattle.command_words.specs.Given.{Word, Values, Give, value_of}
+use Rattle.sample_maker.specs.declared.limits.TheConstants.{LEAST_SIZE, MOST_SIZE}
+use Rattle.command_words.specs.Given.{Word, Row, Values, Give, completed, valued, value_of}
 
 -- what a search is asked for: the problem's file, the folder of includes, and the numbers
 pub record Search : Type 0 where
@@ -20,19 +21,19 @@ pub data Request : Type 0 where
   Sample : (size workers budget : ℕ) → Request
 
 -- an option whose value is a number: its name, the least and the greatest number, and the number that stands where the option is not given
-pub record Row : Type 0 where
+pub record NumberRow : Type 0 where
   pub name : Word
   pub least : ℕ
   pub most : ℕ
   pub default : ℕ
 
-abbrev pub workers : Row
+abbrev pub workers : NumberRow
 workers = record { name = codes "workers"; least = 1; most = 64; default = 1 }
 
-abbrev pub budget : Row
+abbrev pub budget : NumberRow
 budget = record { name = codes "budget"; least = 0; most = 1000000; default = 100000 }
 
-abbrev pub weight : Row
+abbrev pub weight : NumberRow
 weight = record { name = codes "weight"; least = 1; most = 4096; default = 256 }
 
 -- the option whose value is the folder of includes
@@ -44,7 +45,7 @@ abbrev pub IsNumberIn : (least most : ℕ) → Word → ℕ → Type 0
 IsNumberIn least most text number = IsValue text number × (least ≤ number) × (number ≤ most)
 
 -- the option has this number, which is the default where the option is not given
-abbrev pub HasNumber : Row → Values → ℕ → Type 0
+abbrev pub HasNumber : NumberRow → Values → ℕ → Type 0
 HasNumber row values number = MatchOption (value_of row.name values) (number ≡ row.default) (λ text. IsNumberIn row.least row.most text number)
 
 -- the option has this folder, or there is none where it is not given
@@ -55,14 +56,14 @@ HasRoot values folder = (value_of root values ≡ folder) × (folder ≢ Some []
 abbrev pub HasFile : Word → Values → Word → Type 0
 HasFile place values name = (value_of place values ≡ Some name) × (name ≢ [])
 
--- the place has this number, which is from the least to the greatest
+-- the place has this number, which is the size of a sample
 abbrev pub HasSize : Word → Values → ℕ → Type 0
-HasSize place values size = MatchOption (value_of place values) ⊥ (λ text. IsNumberIn 1 20 text size)
+HasSize place values size = MatchOption (value_of place values) ⊥ (λ text. IsNumberIn LEAST_SIZE MOST_SIZE text size)
 
 -- the words are the command and words that give such values to its options and places
-abbrev pub AreWords : Word → (options places words : List Word) → (Values → Type 0) → Type 0
+abbrev pub AreWords : Word → List Row → (places words : List Word) → (Values → Type 0) → Type 0
 AreWords command options places words IsAsked =
-    (arguments : List Word) × (values : Values) × (words ≡ command ∷ arguments) × Give options places arguments values × IsAsked values
+    (arguments : List Word) × (values : Values) × (words ≡ command ∷ arguments) × Give options places arguments values × IsAsked (completed options values)
 
 -- the values are those of a search
 abbrev pub IsSearch : Search → Values → Type 0
@@ -82,14 +83,14 @@ abbrev pub IsSample : ℕ → ℕ → ℕ → Values → Type 0
 IsSample size workers_asked budget_asked values = HasSize (codes "K") values size × HasNumber workers values workers_asked × HasNumber budget values budget_asked
 
 -- the options and the places of each command
-abbrev pub search_options : List Word
-search_options = workers.name ∷ budget.name ∷ weight.name ∷ root ∷ []
+abbrev pub search_options : List Row
+search_options = valued workers.name ∷ valued budget.name ∷ valued weight.name ∷ valued root ∷ []
 
-abbrev pub sample_options : List Word
-sample_options = workers.name ∷ budget.name ∷ []
+abbrev pub sample_options : List Row
+sample_options = valued workers.name ∷ valued budget.name ∷ []
 
-abbrev pub root_option : List Word
-root_option = root ∷ []
+abbrev pub root_option : List Row
+root_option = valued root ∷ []
 
 abbrev pub file_place : List Word
 file_place = codes "FILE" ∷ []

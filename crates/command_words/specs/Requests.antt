@@ -1,9 +1,14 @@
 -- What a request of the program is seen as.
 use Rattle.std.specs.Prelude.{ℕ, List, option_map}
-use Rattle.command_words.specs.Asking.{Asks, Request as Wanted, Prove as ProveOf, Models as ModelsOf, Check as CheckOf, Forms as FormsOf, Sample as SampleOf, Search as SearchOf}
+use Rattle.command_words.specs.Asking.{Asks, NumberRow as NumberRowOf, Request as Wanted, Prove as ProveOf, Models as ModelsOf, Check as CheckOf, Forms as FormsOf, Sample as SampleOf, Search as SearchOf}
+use Rattle.command_words.specs.declared.options.NumberRow.{NumberRow}
 use Rattle.command_words.specs.declared.request.Request.{Request}
 use Rattle.command_words.specs.declared.request.Request.TheVariants.{Prove, Models, Check, Forms, Sample}
 use Rattle.command_words.specs.declared.request.Search.{Search}
+
+-- the row of an option whose value is a number
+abbrev pub number_row : NumberRow → NumberRowOf
+number_row row = record { name = row.name.now; least = row.least; most = row.most; default = row.default }
 
 abbrev pub search_seen : Search → SearchOf
 search_seen search = record {

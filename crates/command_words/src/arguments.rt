@@ -2,11 +2,12 @@
 
 ghost use Rattle.std.specs.Prelude.{◌≡◌, ℕ, List, true, codes, drop, fold, map, option_map, string_bytes, IfOk, MatchOption};
 ghost use Rattle.clap.specs.Words.{app_of, with_rule};
-ghost use Rattle.command_words.specs.Given.{Give, Values, value_of};
-ghost use Rattle.command_words.specs.Clap.{Hold, app, are_names, option_rule, place_rule};
+ghost use Rattle.command_words.specs.Given.{Give, Values, completed, value_of};
+ghost use Rattle.command_words.specs.Clap.{Hold, app, are_names, option_rule, place_rule, row_seen};
 
+use crate::options::OptionRow;
 use clap::error::ErrorKind;
-use clap::{Arg, ArgMatches, Command};
+use clap::{Arg, ArgAction, ArgMatches, Command};
 use mg_word::NoMemory;
 use std::alloc::{AllocError, Global};
 
@@ -29,12 +30,17 @@ impl<'a> Arguments<'a> {
 fn with_options<'a>(
     alloc: Global,
     mut command: Command<'a>,
-    options: &'a [&'a str],
+    options: &'a [OptionRow],
 ) -> Result<Command<'a>, AllocError>
-    ensures { IfOk result (λ made. app_of made ≡ fold with_rule (app_of command.entry) (map (λ name. option_rule name.now) options.now)) }
+    ensures { IfOk result (λ made. app_of made ≡ fold with_rule (app_of command.entry) (map (λ row. option_rule (row_seen row)) options.now)) }
 {
-    for name in options {
-        command = command.arg(Arg::new(alloc, name).long(name))?;
+    for row in options {
+        let action = if row.takes_value {
+            ArgAction::Set
+        } else {
+            ArgAction::SetTrue
+        };
+        command = command.arg(Arg::new(alloc, row.name).long(row.name).action(action))?;
     }
     Ok(command)
 }
@@ -56,26 +62,27 @@ fn with_places<'a>(
 // The command with these options and places, as clap takes it.
 fn command_with<'a>(
     alloc: Global,
-    options: &'a [&'a str],
+    options: &'a [OptionRow],
     places: &'a [&'a str],
 ) -> Result<Command<'a>, AllocError>
-    ensures { IfOk result (λ made. app_of made ≡ app (codes "mgtp") (map (λ name. name.now) options.now) (map (λ name. name.now) places.now)) }
+    ensures { IfOk result (λ made. app_of made ≡ app (codes "mgtp") (map row_seen options.now) (map (λ name. name.now) places.now)) }
 {
     let bare = Command::new(alloc, "mgtp").disable_help_flag(true);
     with_places(alloc, with_options(alloc, bare, options)?, places)
 }
 
-/// The values that the words behind the first give to these options and places, and `None` where they give none.
+/// The values that the words behind the first give to these options and places, and `None` where they give none. A flag
+/// has the value `true` or `false`.
 pub(crate) fn read_arguments<'a>(
     alloc: Global,
-    options: &'a [&'a str],
+    options: &'a [OptionRow],
     places: &'a [&'a str],
     words: &'a [String],
 ) -> Result<Option<Arguments<'a>>, NoMemory>
-    requires { are_names (map (λ name. name.now) options.now) (map (λ name. name.now) places.now) ≡ true }
+    requires { are_names (map row_seen options.now) (map (λ name. name.now) places.now) ≡ true }
     ensures { IfOk result (λ found. MatchOption found
-        ((values : Values) → Give (map (λ name. name.now) options.entry.now) (map (λ name. name.now) places.entry.now) (drop 1 (map string_bytes words.entry.now)) values → ⊥)
-        (λ given. (values : Values) × Give (map (λ name. name.now) options.entry.now) (map (λ name. name.now) places.entry.now) (drop 1 (map string_bytes words.entry.now)) values × Hold given values)) }
+        ((values : Values) → Give (map row_seen options.entry.now) (map (λ name. name.now) places.entry.now) (drop 1 (map string_bytes words.entry.now)) values → ⊥)
+        (λ given. (values : Values) × Give (map row_seen options.entry.now) (map (λ name. name.now) places.entry.now) (drop 1 (map string_bytes words.entry.now)) values × Hold given (completed (map row_seen options.entry.now) values))) }
 {
     match command_with(alloc, options, places)?.try_get_matches_from(words) {
         Ok(matches) => Ok(Some(Arguments { matches })),

@@ -8,10 +8,6 @@ mod request;
 mod values;
 
 pub use laws::one_request;
-pub use options::{
-    DEFAULT_BUDGET, DEFAULT_WEIGHT, DEFAULT_WORKERS, LEAST_SIZE, LEAST_WEIGHT, LEAST_WORKERS,
-    MOST_BUDGET, MOST_SIZE, MOST_WEIGHT, MOST_WORKERS,
-};
 pub use request::{Request, Search, request_of};
 
 #[cfg(test)]

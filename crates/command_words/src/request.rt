@@ -8,7 +8,11 @@ ghost use Rattle.command_words.specs.Given.{Values, Word};
 ghost use Rattle.command_words.specs.Requests.{AsksFor, AsksNothing, search_seen};
 
 use crate::arguments::{Arguments, read_arguments};
-use crate::values::{budget, file, root, size, weight, workers};
+use crate::options::{
+    BUDGET, FILE_PLACE, ROOT_OPTION, SAMPLE_OPTIONS, SEARCH_OPTIONS, SIZE_PLACE, TREE_PLACES,
+    WEIGHT, WORKERS,
+};
+use crate::values::{file, number, root, size};
 use mg_word::NoMemory;
 use std::alloc::Global;
 
@@ -52,18 +56,6 @@ pub enum Request<'a> {
     },
 }
 
-static SEARCH_OPTIONS: [&str; 4] = ["workers", "budget", "weight", "root"];
-
-static SAMPLE_OPTIONS: [&str; 2] = ["workers", "budget"];
-
-static ROOT_OPTION: [&str; 1] = ["root"];
-
-static FILE_PLACE: [&str; 1] = ["FILE"];
-
-static TREE_PLACES: [&str; 2] = ["FILE", "TREE"];
-
-static SIZE_PLACE: [&str; 1] = ["K"];
-
 // Whether the first word is the command.
 fn is_asked(words: &[String], command: &str) -> bool
     ensures { MatchBool result ((arguments : List Word) × (map string_bytes words.now ≡ command.now ∷ arguments)) ((arguments : List Word) → map string_bytes words.now ≡ command.now ∷ arguments → ⊥) }
@@ -82,9 +74,9 @@ fn search_of<'a>(given: &Arguments<'a>) -> Option<Search<'a>>
     Some(Search {
         file: file(given, "FILE")?,
         root: root(given)?,
-        workers: workers(given)?,
-        budget: budget(given)?,
-        weight: weight(given)?,
+        workers: number(given, &WORKERS)?,
+        budget: number(given, &BUDGET)?,
+        weight: number(given, &WEIGHT)?,
     })
 }
 
@@ -111,7 +103,11 @@ fn sample_of(given: &Arguments<'_>) -> Option<(u32, u32, u32)>
     ensures { (values : Values) → Hold given.now values → MatchOption result
         ((k n m : ℕ) → IsSample k n m values → ⊥) (λ found. IsSample found.0 found.1 found.2 values) }
 {
-    Some((size(given)?, workers(given)?, budget(given)?))
+    Some((
+        size(given)?,
+        number(given, &WORKERS)?,
+        number(given, &BUDGET)?,
+    ))
 }
 
 // The search that the words ask for by this command.

@@ -1,15 +1,23 @@
 //! Words and what they ask for, worked out by hand from the usage text.
 
+use crate::arguments::read_arguments;
+use crate::options::{FILE_PLACE, OptionRow};
 use crate::request_of;
-use std::alloc::Global;
+use std::alloc::{AllocError, Global};
 use std::test::Fail;
 
-// What the words, which are split at spaces, ask for.
-fn asked(alloc: Global, line: &str) -> Result<String, Fail> {
+// The words of a line, which is split at spaces.
+fn words_of(alloc: Global, line: &str) -> Result<Vec<String>, AllocError> {
     let mut words: Vec<String> = Vec::new(alloc);
     for word in line.split(' ') {
         words.push(String::from_str(alloc, word)?)?;
     }
+    Ok(words)
+}
+
+// What the words ask for.
+fn asked(alloc: Global, line: &str) -> Result<String, Fail> {
+    let words = words_of(alloc, line)?;
     let found = request_of(alloc, words.as_slice())?;
     Ok(format!(in alloc; "{found:?}")?)
 }
@@ -78,5 +86,48 @@ fn no_words_ask_for_nothing(rt: HostRuntime) -> Result<(), Fail> {
     let words: Vec<String> = Vec::new(alloc);
     assert!(rt; request_of(alloc, words.as_slice())?.is_none());
     assert_eq!(rt; asked(alloc, "prove ")?.as_str(), "None");
+    Ok(())
+}
+
+// Options of which one is a flag.
+static WITH_A_FLAG: [OptionRow; 2] = [
+    OptionRow {
+        name: "workers",
+        takes_value: true,
+    },
+    OptionRow {
+        name: "close",
+        takes_value: false,
+    },
+];
+
+static FLAG_ROWS: [(&str, Option<&str>); 8] = [
+    ("forms r1.p", Some("false")),
+    ("forms r1.p --close", Some("true")),
+    ("forms --close --workers 2 r1.p", Some("true")),
+    ("forms --close -- --close", Some("true")),
+    ("forms -- --close", Some("false")),
+    ("forms --close r1.p --close", None),
+    ("forms --close=true r1.p", None),
+    ("forms --workers --close r1.p", None),
+];
+
+#[test]
+fn a_flag_is_a_row(rt: HostRuntime) -> Result<(), Fail> {
+    let alloc = rt.alloc();
+    for (line, expected) in FLAG_ROWS.as_slice() {
+        let words = words_of(alloc, line)?;
+        let options = WITH_A_FLAG.as_slice();
+        let given = read_arguments(alloc, options, FILE_PLACE.as_slice(), words.as_slice())?;
+        let close = match &given {
+            Some(values) => values.value("close"),
+            None => None,
+        };
+        assert_eq!(rt;
+            close.unwrap_or("refused"),
+            expected.unwrap_or("refused"),
+            "{line}"
+        );
+    }
     Ok(())
 }

@@ -3,14 +3,13 @@
 ghost use Rattle.std.specs.Prelude.{◌≡◌, ◌≢◌, ℕ, List, Option, [], MatchOption, codes, option_map};
 ghost use Rattle.command_words.specs.Given.{Values, Word};
 ghost use Rattle.command_words.specs.Clap.{Hold};
-ghost use Rattle.command_words.specs.Asking.{HasFile, HasNumber, HasRoot, HasSize, IsNumberIn, Row, budget as budget_row, weight as weight_row, workers as workers_row};
+ghost use Rattle.command_words.specs.Asking.{HasFile, HasNumber, HasRoot, HasSize, IsNumberIn};
+ghost use Rattle.command_words.specs.Requests.{number_row};
 
 use crate::arguments::Arguments;
-use crate::options::{
-    DEFAULT_BUDGET, DEFAULT_WEIGHT, DEFAULT_WORKERS, LEAST_SIZE, LEAST_WEIGHT, LEAST_WORKERS,
-    MOST_BUDGET, MOST_SIZE, MOST_WEIGHT, MOST_WORKERS,
-};
+use crate::options::NumberRow;
 use ascii_text::plain_value;
+use sample_maker::{LEAST_SIZE, MOST_SIZE};
 
 // The number that the text spells, where it is from the least to the greatest.
 fn number_in(text: &str, least: u32, most: u32) -> Option<u32>
@@ -23,43 +22,14 @@ fn number_in(text: &str, least: u32, most: u32) -> Option<u32>
     Some(number)
 }
 
-// The number of an option, which is the default where the option is not given.
-fn number(given: &Arguments<'_>, name: &str, least: u32, most: u32, default: u32) -> Option<u32>
-    ensures { (values : Values) → Hold given.now values → MatchOption result
-        ((n : ℕ) → HasNumber (record { name = name.now; least = least; most = most; default = default }) values n → ⊥)
-        (HasNumber (record { name = name.now; least = least; most = most; default = default }) values) }
+/// The number of an option, which is the default where the option is not given, and `None` where the value is no such number.
+pub(crate) fn number(given: &Arguments<'_>, row: &NumberRow) -> Option<u32>
+    ensures { (values : Values) → Hold given.now values → MatchOption result ((n : ℕ) → HasNumber (number_row row.now) values n → ⊥) (HasNumber (number_row row.now) values) }
 {
-    let Some(text) = given.value(name) else {
-        return Some(default);
+    let Some(text) = given.value(row.name) else {
+        return Some(row.default);
     };
-    number_in(text, least, most)
-}
-
-/// The number of workers, and `None` where the option's value is no such number.
-pub(crate) fn workers(given: &Arguments<'_>) -> Option<u32>
-    ensures { (values : Values) → Hold given.now values → MatchOption result ((n : ℕ) → HasNumber workers_row values n → ⊥) (HasNumber workers_row values) }
-{
-    number(
-        given,
-        "workers",
-        LEAST_WORKERS,
-        MOST_WORKERS,
-        DEFAULT_WORKERS,
-    )
-}
-
-/// How many extensions a search may make, and `None` where the option's value is no such number.
-pub(crate) fn budget(given: &Arguments<'_>) -> Option<u32>
-    ensures { (values : Values) → Hold given.now values → MatchOption result ((n : ℕ) → HasNumber budget_row values n → ⊥) (HasNumber budget_row values) }
-{
-    number(given, "budget", 0, MOST_BUDGET, DEFAULT_BUDGET)
-}
-
-/// The greatest weight of an instance, and `None` where the option's value is no such number.
-pub(crate) fn weight(given: &Arguments<'_>) -> Option<u32>
-    ensures { (values : Values) → Hold given.now values → MatchOption result ((n : ℕ) → HasNumber weight_row values n → ⊥) (HasNumber weight_row values) }
-{
-    number(given, "weight", LEAST_WEIGHT, MOST_WEIGHT, DEFAULT_WEIGHT)
+    number_in(text, row.least, row.most)
 }
 
 /// The size of a problem that is made, and `None` where it is no such number.

@@ -37,25 +37,10 @@ use Rattle.tree_board.proofs.Journals.{events_kept}
 use Rattle.tree_board.proofs.Living.{all_used}
 use Rattle.tree_board.proofs.Replays.{replay_board}
 use Rattle.model_lister.specs.Listings.{AreOne, IsComplete, IsCutOff, IsListing, Lists}
-use Rattle.model_lister.specs.Runs.{IsRun, IsSearched, end_of, limit_in, search_of}
+use Rattle.model_lister.specs.Ends.{IsSearched, end_of}
+use Rattle.model_lister.specs.Runs.{IsRun, limit_in, search_of}
 use Rattle.model_lister.specs.declared.listing.Listing.{Listing}
-
--- ---- the journal of one worker
-
-alone_lawful : (setting : Setting) (board : Board) (events : List Event) → IsAlone setting board events → AreLawful setting board events
-alone_lawful setting board [] alone = tt
-alone_lawful setting board (event ∷ events) (more, lawful, first, rest) = (lawful, alone_lawful setting (effect setting board event) events rest)
-
--- it leaves a replay
-pub alone_replay : (setting : Setting) (events : List Event) → IsAlone setting opening events → IsReplay setting (replay_from setting opening events)
-alone_replay setting events alone = record { events = events; lawful = alone_lawful setting opening events alone; is = refl }
-
--- where the search has ended, or can go no further
-pub alone_end : (setting : Setting) (board : Board) (events : List Event) → IsAlone setting board events
-    → IsEnd (state_of setting (replay_from setting board events)) ⊎ IsLeft setting (replay_from setting board events)
-unfolding replay_from
-alone_end setting board [] ended = ended
-alone_end setting board (event ∷ events) (more, lawful, first, rest) = alone_end setting (effect setting board event) events rest
+use Rattle.model_lister.proofs.Journal.{alone_end, alone_lawful, alone_replay}
 
 -- ---- a board with nothing left to do
 

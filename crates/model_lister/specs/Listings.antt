@@ -14,7 +14,8 @@ use Rattle.tree_board.specs.Stuck.{GivesUp}
 use Rattle.tree_board.specs.declared.mode.BoardState.TheVariants.{Blocked, Closed, Complete}
 use Rattle.tree_board.specs.declared.mode.Limit.{Limit}
 use Rattle.tree_board.specs.declared.mode.Limits.{Limits}
-use Rattle.model_lister.specs.Runs.{IsRun, end_of, search_of}
+use Rattle.model_lister.specs.Ends.{end_of}
+use Rattle.model_lister.specs.Runs.{IsRun, search_of}
 use Rattle.model_lister.specs.declared.listing.Listing.{Listing}
 
 -- nothing is left to do, and these are exactly the minimal sets; the instances of forms that the search used cover them, and where

@@ -1,28 +1,18 @@
 -- The search for all minimal sets of a problem, by one worker.
 use Rattle.std.specs.Prelude.{List, None, Option, Some, ◌≡◌}
 use Rattle.mg_word.specs.Facts.{IsProblem, ProblemData}
-use Rattle.tree_board.specs.Alone.{IsAlone}
-use Rattle.tree_board.specs.Boards.{opening}
-use Rattle.tree_board.specs.Searches.{Search, board_of, setting_of}
-use Rattle.tree_board.specs.Standing.{state_of}
+use Rattle.tree_board.specs.Searches.{Search}
 use Rattle.tree_board.specs.declared.event.Event.{Event}
 use Rattle.tree_board.specs.declared.mode.BoardState.{BoardState}
 use Rattle.tree_board.specs.declared.mode.BoardState.TheVariants.{Blocked, Closed, Complete, Model, Running}
 use Rattle.tree_board.specs.declared.mode.Limit.{Limit}
 use Rattle.tree_board.specs.declared.mode.Limits.{Limits}
 use Rattle.tree_board.specs.declared.mode.Mode.TheVariants.{List as ListAll}
+use Rattle.model_lister.specs.Ends.{IsSearched}
 
 -- the search for all minimal sets of the problem, after these events
 abbrev pub search_of : ProblemData → Limits → List Event → Search
 search_of problem limits journal = record { problem = problem; mode = ListAll; limits = limits; journal = journal }
-
--- how the board that its journal leaves stands
-abbrev pub end_of : Search → BoardState
-end_of search = state_of (setting_of search) (board_of search)
-
--- one worker has gone on with the search from its opening to the end
-abbrev pub IsSearched : Search → Type 0
-IsSearched search = IsAlone (setting_of search) opening search.journal
 
 -- such a search for all minimal sets of the problem, within these limits
 pub record IsRun (problem : ProblemData) (limits : Limits) (search : Search) : Type 0 where

@@ -2,7 +2,8 @@
 
 ghost use Rattle.std.specs.Prelude.{◌≡◌, ◌<◌, ◌≤◌, IfOk};
 ghost use Rattle.std.specs.Arc.{arc_value};
-ghost use Rattle.model_lister.specs.Runs.{IsRun, end_of, limit_in};
+ghost use Rattle.model_lister.specs.Ends.{end_of};
+ghost use Rattle.model_lister.specs.Runs.{IsRun, limit_in};
 ghost use Rattle.model_lister.specs.Listings.{IsListing};
 
 use crate::minimal::minimal_found;

@@ -9,11 +9,15 @@ use Rattle.mg_word.specs.declared.clause.ClauseLit.{ClauseLit}
 use Rattle.mg_word.specs.declared.clause.ClauseLit.TheVariants.{Lit as Literal}
 use Rattle.mg_word.specs.declared.clause.Clause.{Clause}
 use Rattle.mg_word.specs.declared.clause.Place.{Place}
-use Rattle.sample_maker.specs.declared.limits.TheConstants.{MOST_SIZE}
+use Rattle.sample_maker.specs.declared.limits.TheConstants.{LEAST_SIZE, MOST_SIZE}
+
+-- there is a sample of the size
+abbrev pub HasSample : ℕ → Type 0
+HasSample size = (LEAST_SIZE ≤ size) × (size ≤ MOST_SIZE)
 
 -- there is no sample of the size
 abbrev pub IsOutOfRange : ℕ → Type 0
-IsOutOfRange size = (size ≡ 0) ⊎ (MOST_SIZE < size)
+IsOutOfRange size = (size < LEAST_SIZE) ⊎ (MOST_SIZE < size)
 
 -- the numbers from 1 to the last
 abbrev pub up_to : ℕ → List ℕ

@@ -8,7 +8,7 @@ mod making;
 mod names;
 
 pub use fault::SampleFault;
-pub use limits::MOST_SIZE;
+pub use limits::{LEAST_SIZE, MOST_SIZE};
 pub use making::sample;
 
 #[cfg(test)]

@@ -5,7 +5,7 @@ ghost use Rattle.sample_maker.specs.Sample as sample;
 
 use crate::clauses::sample_clauses;
 use crate::names::numbered;
-use crate::{MOST_SIZE, SampleFault};
+use crate::{LEAST_SIZE, MOST_SIZE, SampleFault};
 use mg_word::{Input, Items, Kind, NoMemory, Symbols, Text};
 use std::alloc::Global;
 
@@ -66,7 +66,7 @@ pub fn sample(alloc: Global, size: u32) -> Result<Input, SampleFault>
     ensures within { IfOk result (λ _. ¬ sample.IsOutOfRange size) }
     ensures range { IfErr result (λ fault. (fault ≡ SampleFault.Range) ↔ sample.IsOutOfRange size) }
 {
-    if size == 0 || size > MOST_SIZE {
+    if size < LEAST_SIZE || size > MOST_SIZE {
         return Err(SampleFault::Range);
     }
     let symbols = sample_symbols(alloc, size)?;

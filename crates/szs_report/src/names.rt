@@ -1,6 +1,7 @@
 //! The name of a problem in the lines that are printed.
 
-ghost use Rattle.std.specs.Prelude.{◌≡◌, ◌≤◌};
+ghost use Rattle.std.specs.Prelude.{◌≡◌};
+ghost use Rattle.sample_maker.specs.Sample.{HasSample};
 ghost use Rattle.szs_report.specs.Names.{name_of, last_part, sample_name, stem_of};
 
 // What stands behind the last slash of a path.
@@ -33,8 +34,7 @@ pub fn szs_name(path: &str) -> &str
 
 /// The name of the sample problem of that size. It takes no memory.
 pub fn sample_name(size: u32) -> &'static str
-    requires least { 1 ≤ size }
-    requires most { size ≤ 20 }
+    requires { HasSample size }
     ensures { result.now ≡ sample_name size }
 {
     match size {

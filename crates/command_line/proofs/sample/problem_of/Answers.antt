@@ -4,8 +4,8 @@ use Rattle.command_line.proofs.sample.problem_of.Goals as goal
 
 pub unreachable-requires : goal.unreachable-requires
 unreachable-requires c = elim (c.in-Err-Range.ensures.range.0 c.in-Err-Range.field-0-is) [
-  | inl none ↦ omega (arith, none, c.requires.least)
-  | inr many ↦ omega (arith, many, c.requires.most)
+  | inl none ↦ omega (arith, none, c.requires.0)
+  | inr many ↦ omega (arith, many, c.requires.1)
 ]
 
 pub returns-in-Ok-forms_of : goal.returns-in-Ok-forms_of

@@ -3,12 +3,12 @@ use denote.Enum.Bare.{sameb}
 use Rattle.clap.specs.contracts.error.kind.ErrorKind.{the_type}
 use Rattle.clap.specs.declared.error.kind.ErrorKind.TheVariants.{OutOfMemory}
 use Rattle.clap.specs.Faults.{is_simple_and_free}
-use Rattle.command_words.proofs.Commands.{gives, refuses, simple_and_free, texts}
+use Rattle.command_words.proofs.Commands.{gives, refuses, rows_seen, simple_and_free, texts}
 use Rattle.command_words.proofs.arguments.read_arguments.Goals as goal
 
 pub returns-in-Ok : goal.returns-in-Ok
 returns-in-Ok c =
-    let options = texts c.args.options.now in
+    let options = rows_seen c.args.options.now in
     let places = texts c.args.places.now in
     let is = c.in_ok-command_with.ensures in
     let free = ap is_simple_and_free is ∙ simple_and_free (codes "mgtp") options places c.requires in
@@ -16,7 +16,7 @@ returns-in-Ok c =
 
 pub returns-else-eq : goal.returns-else-eq
 returns-else-eq c =
-    let options = texts c.args.options.now in
+    let options = rows_seen c.args.options.now in
     let places = texts c.args.places.now in
     let is = c.in_ok-command_with.ensures in
     let free = ap is_simple_and_free is ∙ simple_and_free (codes "mgtp") options places c.requires in

@@ -1,7 +1,7 @@
 use Rattle.std.proofs.Common.{◌≡◌, fold, map, drop}
 use Rattle.clap.specs.Words.{app_of, with_rule}
-use Rattle.command_words.specs.Clap.{option_rule}
+use Rattle.command_words.specs.Clap.{option_rule, row_seen}
 use Rattle.command_words.proofs.arguments.with_options.Given as goal
 
-abbrev pub invariant-loop-name : goal.invariant-loop-name
-invariant-loop-name l = fold with_rule (app_of l.command) (map (λ name. option_rule name.now) (drop l.name-index l.options)) ≡ fold with_rule (app_of l.initial.command) (map (λ name. option_rule name.now) l.options)
+abbrev pub invariant-loop-row : goal.invariant-loop-row
+invariant-loop-row l = fold with_rule (app_of l.command) (map (λ row. option_rule (row_seen row)) (drop l.row-index l.options)) ≡ fold with_rule (app_of l.initial.command) (map (λ row. option_rule (row_seen row)) l.options)
