@@ -1,4 +1,11 @@
+pub mod Comparing
+pub mod Concluded
+pub mod Fitting
 pub mod Held
+pub mod Leveling
+pub mod MatchedBy
 pub mod Rightly
 pub mod Sampled
 pub mod SignsOf
+pub mod StacksMoves
+pub mod TermsGrow

@@ -1,5 +1,10 @@
+pub mod Atoms
 pub mod Branches
+pub mod Concluding
 pub mod Laws
+pub mod Levels
+pub mod Matched
+pub mod MatchedSeen
 pub mod Samples
 pub mod Signs
 pub mod Steps

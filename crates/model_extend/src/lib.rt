@@ -2,14 +2,15 @@
 #![tactic(auto)]
 
 mod branch;
+mod conclusions;
 mod crossing;
 mod laws;
-mod mark;
+mod matched;
 mod step;
 
 pub use branch::Branch;
 pub use laws::{branches_grow_by_pushes, found_is_unique};
-pub use mark::Mark;
+pub use ramified_match::Mark;
 pub use step::{Found, Step, look, make_step};
 
 #[cfg(test)]

@@ -6,3 +6,4 @@ pub mod Numbers
 pub mod Readings
 pub mod TableTerms
 pub mod WordsGrow
+pub mod InstanceTerms

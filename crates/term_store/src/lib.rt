@@ -2,6 +2,7 @@
 #![tactic(auto)]
 
 mod arguments;
+mod instances;
 mod laws;
 mod matching;
 mod order;

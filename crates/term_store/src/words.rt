@@ -53,7 +53,7 @@ impl TermStore {
     }
 
     // Replaces the last terms, the last first, by the term with these arguments.
-    fn intern_last(
+    pub(crate) fn intern_last(
         &mut self,
         symbol: u32,
         arity: usize,

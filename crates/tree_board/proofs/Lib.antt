@@ -2,7 +2,6 @@ pub mod Births
 pub mod Examples
 pub mod Places
 pub mod Growth
-pub mod Fitting
 pub mod Cleaning
 pub mod Settling
 pub mod Below

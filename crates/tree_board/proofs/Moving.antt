@@ -20,7 +20,7 @@ use Rattle.tree_board.specs.Nodes.{Node}
 use Rattle.tree_board.specs.Settings.{Setting}
 use Rattle.tree_board.proofs.Places.{whence, there_now, among-append, within}
 use Rattle.tree_board.proofs.Growth.{Grows, path_stays, sound_stays, not_split}
-use Rattle.tree_board.proofs.Fitting.{conclusions_fit}
+use Rattle.model_extend.proofs.Fitting.{conclusions_fit}
 use Rattle.tree_board.proofs.Cleaning.{part_one_more}
 use Rattle.tree_board.proofs.Settling.{insts-append, settled_keeps, moved_grows, born_sound, settled_sound, none_some}
 use Rattle.tree_board.proofs.Below.{node_closed, open_above_none, IsBorn, born_parts, siblings, state_by_not_settled}
