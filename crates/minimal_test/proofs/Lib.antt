@@ -1,5 +1,7 @@
 pub mod FindingSteps
 pub mod FitSteps
+pub mod HeldRules
+pub mod Holdings
 pub mod Matched
 pub mod PartRules
 pub mod PassSteps

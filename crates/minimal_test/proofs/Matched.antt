@@ -60,7 +60,7 @@ bound_ground table (Some term ∷ terms) each bound =
     and_true (fits table term) (list_all (fits table) (terms_of terms)) parts.0 (bound_ground table terms parts.1 (λ k less. bound (suc k) (omega arith)))
 
 -- a form of a list has a number
-number_of : (forms : List Form) (form : Form) → Among forms form → (k : ℕ) × (slice_get forms k ≡ Some form)
+pub number_of : (forms : List Form) (form : Form) → Among forms form → (k : ℕ) × (slice_get forms k ≡ Some form)
 number_of [] form there = absurd there
 number_of (first ∷ forms) form (inl same) = (zero, ap Some same)
 number_of (first ∷ forms) form (inr later) = let (k, at) = number_of forms form later in (suc k, at)

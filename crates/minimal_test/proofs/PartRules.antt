@@ -20,25 +20,25 @@ use Rattle.mg_meaning.proofs.Matchings.{holds_from_among, among_from_holds}
 use Rattle.minimal_test.specs.declared.rule.Rule.{Rule}
 use Rattle.minimal_test.specs.declared.side.Side.{Side}
 use Rattle.minimal_test.specs.declared.side.Side.TheVariants.{Open}
-use Rattle.minimal_test.specs.Choices.{is_broken, keeps, side_at, side_of, chosen_of}
+use Rattle.minimal_test.specs.Choices.{is_broken, keeps, AskTheSame, side_at, side_of, chosen_of}
 use Rattle.minimal_test.specs.Paths.{Agrees, IsDead}
 use Rattle.minimal_test.specs.Places.{rule_of, clash_rules, stray_rules, instance_rule, form_rules, rules_of, chosen_by, chosen_from}
 use Rattle.minimal_test.proofs.PlaceSteps.{rule_broken, chosen_by_goes, taken_inside, taken_goes}
 use Rattle.minimal_test.proofs.Matched.{matched_instance, IsMatched, instance_matched}
 
 -- kept rules, one by one
-keeps_from : (chosen : ℕ → Bool) (rules : List Rule) → ((rule : Rule) → Among rules rule → is_broken chosen rule ≡ false) → keeps chosen rules ≡ true
+pub keeps_from : (chosen : ℕ → Bool) (rules : List Rule) → ((rule : Rule) → Among rules rule → is_broken chosen rule ≡ false) → keeps chosen rules ≡ true
 keeps_from chosen [] each = refl
 keeps_from chosen (rule ∷ rules) each =
     and_true (not (is_broken chosen rule)) (keeps chosen rules) (not_false (is_broken chosen rule) (each rule (inl refl))) (keeps_from chosen rules (λ one there. each one (inr there)))
 
-kept_each : (chosen : ℕ → Bool) (rules : List Rule) (rule : Rule) → keeps chosen rules ≡ true → Among rules rule → is_broken chosen rule ≡ false
+pub kept_each : (chosen : ℕ → Bool) (rules : List Rule) (rule : Rule) → keeps chosen rules ≡ true → Among rules rule → is_broken chosen rule ≡ false
 kept_each chosen [] rule kept there = absurd there
 kept_each chosen (first ∷ rules) rule kept (inl same) = ap (is_broken chosen) (sym same) ∙ not_true (is_broken chosen first) (both_true (not (is_broken chosen first)) (keeps chosen rules) kept).0
 kept_each chosen (first ∷ rules) rule kept (inr later) = kept_each chosen rules rule (both_true (not (is_broken chosen first)) (keeps chosen rules) kept).1 later
 
 -- of the problem's literals, one by one
-literal_fits : (table : List Symbol) (lits : List Lit) (lit : Lit) → are_literals table lits ≡ true → holds lits lit ≡ true → fits table lit.word ≡ true
+pub literal_fits : (table : List Symbol) (lits : List Lit) (lit : Lit) → are_literals table lits ≡ true → holds lits lit ≡ true → fits table lit.word ≡ true
 literal_fits table [] lit all there = absurd (true≢false (sym there))
 literal_fits table (first ∷ lits) lit all there =
     let parts = both_true (fits table first.word) (are_literals table lits) all in
@@ -216,14 +216,14 @@ taken_smaller problem real set chosen rising kept =
         let same : 0 + k ≡ k = omega arith in
         ap chosen (sym same) ∙ (taken_goes chosen 0 set k lit rising at ∙ sym (holds-set_of (chosen_from chosen 0 set) lit))
 
--- the same of rules and literals that are those of the problem and the set
-pub none_listed : (problem : ProblemData) → IsProblem problem → (set lits : List Lit) (rules : List Rule) → rules ≡ rules_of problem.symbols problem.forms set → lits ≡ set → IsDead rules (replicate (length lits) Open) → (part : List Lit) → IsSmaller problem set part → ⊥
-none_listed problem real set lits rules listed same dead =
-    none_smaller problem real set (subst (λ (one : List Rule). IsDead one (replicate (length set) Open)) listed (subst (λ (one : List Lit). IsDead rules (replicate (length one) Open)) same dead))
+-- the same of rules that ask the same, and of literals that are those of the set
+pub none_listed : (problem : ProblemData) → IsProblem problem → (set lits : List Lit) (rules : List Rule) → AskTheSame rules (rules_of problem.symbols problem.forms set) → lits ≡ set → IsDead rules (replicate (length lits) Open) → (part : List Lit) → IsSmaller problem set part → ⊥
+none_listed problem real set lits rules asks same dead =
+    none_smaller problem real set (λ chosen kept agrees. subst (λ (one : List Lit). IsDead rules (replicate (length one) Open)) same dead chosen (asks chosen ∙ kept) agrees)
 
-pub taken_listed : (problem : ProblemData) → IsProblem problem → (set lits : List Lit) (rules : List Rule) (sides slice : List Side) (part smaller : List Lit) → rules ≡ rules_of problem.symbols problem.forms set → lits ≡ set → is_rising set ≡ true
+pub taken_listed : (problem : ProblemData) → IsProblem problem → (set lits : List Lit) (rules : List Rule) (sides slice : List Side) (part smaller : List Lit) → AskTheSame rules (rules_of problem.symbols problem.forms set) → lits ≡ set → is_rising set ≡ true
     → keeps (chosen_of sides) rules ≡ true → slice ≡ sides → part ≡ chosen_from (chosen_of slice) 0 lits → smaller ≡ set_of part → IsSmaller problem set smaller
-taken_listed problem real set lits rules sides slice part smaller listed same rising kept read taken made =
-    let own : IsSmaller problem set (set_of (chosen_from (chosen_of sides) 0 set)) = taken_smaller problem real set (chosen_of sides) rising (ap (keeps (chosen_of sides)) (sym listed) ∙ kept) in
+taken_listed problem real set lits rules sides slice part smaller asks same rising kept read taken made =
+    let own : IsSmaller problem set (set_of (chosen_from (chosen_of sides) 0 set)) = taken_smaller problem real set (chosen_of sides) rising (sym (asks (chosen_of sides)) ∙ kept) in
     let equal : smaller ≡ set_of (chosen_from (chosen_of sides) 0 set) = made ∙ ap set_of (taken ∙ ap₂ (λ (s : List Side) (l : List Lit). chosen_from (chosen_of s) 0 l) read same) in
     subst (IsSmaller problem set) (sym equal) own

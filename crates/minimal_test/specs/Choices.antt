@@ -1,5 +1,5 @@
 -- Choices of places, in propositional logic: each place is in or out, and rules are kept or broken.
-use Rattle.std.specs.Prelude.{ℕ, Bool, true, false, not, ◌&&◌, List, slice_get, unwrap_or}
+use Rattle.std.specs.Prelude.{◌≡◌, ℕ, Bool, true, false, not, ◌&&◌, List, slice_get, unwrap_or}
 use Rattle.std.specs.List.{list_any, list_all}
 use Rattle.minimal_test.specs.declared.rule.Rule.{Rule}
 use Rattle.minimal_test.specs.declared.side.Side.{Side}
@@ -12,6 +12,10 @@ is_broken chosen rule = list_all chosen rule.premises && not (list_any chosen ru
 -- the choice breaks none of the rules
 abbrev pub keeps : (ℕ → Bool) → List Rule → Bool
 keeps chosen rules = list_all (λ rule. not (is_broken chosen rule)) rules
+
+-- each choice keeps the ones where it keeps the others
+abbrev pub AskTheSame : List Rule → List Rule → Type 0
+AskTheSame these those = (chosen : ℕ → Bool) → keeps chosen these ≡ keeps chosen those
 
 -- the side of a place; a place that there is not is out
 abbrev pub side_at : List Side → ℕ → Side

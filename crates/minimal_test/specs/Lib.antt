@@ -1,5 +1,6 @@
 pub mod Choices
 pub mod Findings
+pub mod FullRules
 pub mod Laws
 pub mod Paths
 pub mod Places

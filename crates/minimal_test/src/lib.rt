@@ -5,6 +5,8 @@
 mod crossing;
 mod finding;
 mod fitting;
+mod full_rules;
+mod holding;
 mod laws;
 mod listing;
 mod minimality;
@@ -15,8 +17,10 @@ mod rest;
 mod rule;
 mod search;
 mod side;
+mod tester;
 mod verdict;
 
 pub use laws::{verdicts_exclude, verdicts_tell_minimality};
 pub use minimality::test;
+pub use tester::Tester;
 pub use verdict::Verdict;
