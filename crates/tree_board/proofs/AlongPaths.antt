@@ -1,6 +1,7 @@
 -- Paths that are moved along with the search.
 use Rattle.std.proofs.Common.{◌≡◌, ◌≢◌, ◌+◌, ◌-◌, ◌<◌, ◌≤◌, min, ℕ, zero, suc, Bool, true, false, ◌||◌, nat_eq, List, [], ◌∷◌, ◌++◌, length, get_or, take, slice_get, OnOk, Option, Some, None, Result, Ok, Err, option_map, refl, sym, ap, ap₂, subst, ◌∙◌, ◌⊎◌, inl, inr, append_assoc, arith}
 use Rattle.std.specs.Prelude.{option_and_then}
+use Rattle.std.specs.Option.{option_to_list}
 use Rattle.std.proofs.lemmas.Bool.{cases_eq, cond-false, ne_eqb}
 use Rattle.std.proofs.lemmas.List.{append-nil, length-append, take_at, take_more}
 use Rattle.mg_word.specs.Facts.{ProblemData}
@@ -15,6 +16,9 @@ use Rattle.model_extend.specs.Branches.{AreBranch, BranchData, CanPush}
 use Rattle.model_extend.proofs.Held.{branch_last}
 use Rattle.case_split.specs.Splitting.{closure_by, children_of as cases_of}
 use Rattle.case_split.specs.declared.child.Closure.{Closure}
+use Rattle.key_watch.specs.Keys.{Watched, keys_of}
+use Rattle.key_watch.specs.Owned.{Owned}
+use Rattle.key_watch.specs.declared.key.Key.{Key}
 use Rattle.tree_board.specs.declared.cell.Cell.{Cell}
 use Rattle.tree_board.specs.declared.event.Event.{Event}
 use Rattle.tree_board.specs.declared.event.Event.TheVariants.{Extend, Reject, ByLemma, Saturated, Covered as CoveredBy, Heavy as TooHeavy}
@@ -30,8 +34,9 @@ use Rattle.tree_board.specs.Keeping.{IsKeeping}
 use Rattle.tree_board.specs.Lawful.{IsLawful}
 use Rattle.tree_board.specs.NodeStates.{NodeState, Open, Split, is_shut}
 use Rattle.tree_board.specs.Nodes.{Node}
-use Rattle.tree_board.specs.Paths.{HasMet, IsAtRoot, IsUnshut, LeadsNear, LeadsTo, bars_along, reasons_from}
-use Rattle.tree_board.specs.Readers.{first_child_of, instance_of, literal_from, literal_in, shown}
+use Rattle.tree_board.specs.PathReads.{HasRead}
+use Rattle.tree_board.specs.Paths.{HasEntered, HasLeft, HasMet, IsAtRoot, IsUnshut, LeadsNear, LeadsTo, bars_along, keys_along, literal_by, reasons_from}
+use Rattle.tree_board.specs.Readers.{case_in, first_child_of, instance_of, literal_from, literal_in, shown}
 use Rattle.tree_board.specs.Searches.{Search, board_of, setting_of}
 use Rattle.tree_board.specs.Settings.{Setting}
 use Rattle.tree_board.specs.Settling.{IsOpenAt}
@@ -45,7 +50,8 @@ use Rattle.tree_board.proofs.NodeBranches.{live_branch}
 use Rattle.tree_board.proofs.Places.{same_some, within}
 use Rattle.tree_board.proofs.Replays.{replay_board}
 use Rattle.tree_board.proofs.Shown.{first_child_kept, instance_kept}
-use Rattle.tree_board.proofs.Ways.{ComesFrom, literal_by, literal_is, origin, parent_is}
+use Rattle.tree_board.proofs.PathReading.{nothing_read, reads_on}
+use Rattle.tree_board.proofs.Ways.{ComesFrom, literal_is, origin, parent_is}
 
 abbrev bars_at : List Node → ℕ → ℕ → List Lit
 bars_at nodes parent number = cases_before (shown instance_of nodes parent) (shown first_child_of nodes parent) number
@@ -53,7 +59,7 @@ bars_at nodes parent number = cases_before (shown instance_of nodes parent) (sho
 -- ---- a node and its parent
 
 -- a node below its parent
-record IsBelow (board : Board) (number parent : ℕ) (here : Node) : Type 0 where
+pub record IsBelow (board : Board) (number parent : ℕ) (here : Node) : Type 0 where
   pub node : Node
   pub is : slice_get board.nodes parent ≡ Some node
   pub below : parent < number
@@ -62,9 +68,13 @@ record IsBelow (board : Board) (number parent : ℕ) (here : Node) : Type 0 wher
   pub lits : here.lits ≡ node.lits ++ lit ∷ []
   pub gives : literal_by board.nodes number (parent_of here.path) ≡ Some lit
   pub bars : bars_along board.nodes here.path ≡ bars_along board.nodes node.path ++ bars_at board.nodes parent number
+  pub keys : keys_along board.nodes here.path ≡ keys_along board.nodes node.path ++ keys_of (lit ∷ []) (bars_at board.nodes parent number)
 
 bars_more : (nodes : List Node) (number parent : ℕ) (above : List ℕ) → bars_along nodes (number ∷ parent ∷ above) ≡ bars_along nodes (parent ∷ above) ++ bars_at nodes parent number
 bars_more nodes number parent above = refl
+
+keys_more : (nodes : List Node) (number parent : ℕ) (above : List ℕ) → keys_along nodes (number ∷ parent ∷ above) ≡ keys_along nodes (parent ∷ above) ++ keys_of (option_to_list (literal_by nodes number parent)) (bars_at nodes parent number)
+keys_more nodes number parent above = refl
 
 tails_are : (a b : ℕ) (xs ys : List ℕ) → a ∷ xs ≡ b ∷ ys → xs ≡ ys
 tails_are a b xs ys e = cc
@@ -73,7 +83,7 @@ heads_are : (a b : ℕ) (xs ys : List ℕ) → a ∷ xs ≡ b ∷ ys → a ≡ b
 heads_are a b xs ys e = cc
 
 -- the child of a node comes from it
-below_parent : (setting : Setting) (board : Board) → IsBoard setting board → (number parent : ℕ) (here : Node) → slice_get board.nodes number ≡ Some here → IsChildOf board.nodes number parent → IsBelow board number parent here
+pub below_parent : (setting : Setting) (board : Board) → IsBoard setting board → (number parent : ℕ) (here : Node) → slice_get board.nodes number ≡ Some here → IsChildOf board.nodes number parent → IsBelow board number parent here
 below_parent setting board facts number parent here at child = by (origin setting board facts number here at)
   where
     own : here.path ≡ number ∷ child.node.path
@@ -101,6 +111,9 @@ below_parent setting board facts number parent here at child = by (origin settin
           lits = from.lits ∙ ap (λ (one : Node). one.lits ++ from.lit ∷ []) same;
           gives = from.gives;
           bars = ap (bars_along board.nodes) (own ∙ ap (λ path. number ∷ path) up.1) ∙ (bars_more board.nodes number parent up.0 ∙ ap (λ path. bars_along board.nodes path ++ bars_at board.nodes parent number) (sym up.1));
+          keys = ap (keys_along board.nodes) (own ∙ ap (λ path. number ∷ path) up.1)
+              ∙ (keys_more board.nodes number parent up.0
+              ∙ ap₂ (λ path (lit : Option Lit). keys_along board.nodes path ++ keys_of (option_to_list lit) (bars_at board.nodes parent number)) (sym up.1) (ap (literal_by board.nodes number) (sym parent_same) ∙ from.gives));
         }
 
 -- every node but the root is a child
@@ -238,6 +251,18 @@ module _ (setting : Setting) (board : Board) (event : Event) (lawful : IsLawful 
       let firsts = shows_same (effect setting board event).nodes board.nodes parent there.other child.node there.is child.is state first_child_of in
       ap₂ (λ front back. front ++ back) (bars_stay (parent ∷ above) rooted.1) (ap₂ (λ (i : Option Inst) (f : Option ℕ). cases_before i f number) insts firsts)
 
+  keys_stay : (path : List ℕ) → IsPath board.nodes path → keys_along (effect setting board event).nodes path ≡ keys_along board.nodes path
+  keys_stay [] bad = absurd bad
+  keys_stay (number ∷ []) rooted = refl
+  keys_stay (number ∷ parent ∷ above) rooted =
+      let child = rooted.0 in
+      let there = still_there parent child.node child.is in
+      let state : there.other.state ≡ child.node.state = there.split child.inst child.first child.state ∙ sym child.state in
+      let insts = shows_same (effect setting board event).nodes board.nodes parent there.other child.node there.is child.is state instance_of in
+      let firsts = shows_same (effect setting board event).nodes board.nodes parent there.other child.node there.is child.is state first_child_of in
+      ap₂ (λ front back. front ++ back) (keys_stay (parent ∷ above) rooted.1)
+      (ap₂ (λ (i : Option Inst) (f : Option ℕ). keys_of (option_to_list (option_and_then (λ first. option_and_then (λ (inst : Inst). case_in inst first number) i) f)) (cases_before i f number)) insts firsts)
+
 -- the path still leads there
 pub leads_on : (before after : Search) (event : Event) (lawful : IsLawful (setting_of before) (board_of before) event) → IsBoard (setting_of before) (board_of before) → after ≡ record before { journal = before.journal ++ event ∷ [] } → (path : Path) → LeadsTo before path → LeadsTo after path
 leads_on before after event lawful facts is path leads =
@@ -253,6 +278,10 @@ leads_on before after event lawful facts is path leads =
       barred = leads.barred
           ∙ (sym (bars_stay setting board event lawful leads.node.path (facts.each path.node leads.node leads.is).rooted)
           ∙ (ap (λ (one : Board). bars_along one.nodes leads.node.path) next ∙ ap (bars_along (board_of after).nodes) (sym there.path)));
+      keys = leads.keys
+          ∙ (sym (keys_stay setting board event lawful leads.node.path (facts.each path.node leads.node leads.is).rooted)
+          ∙ (ap (λ (one : Board). keys_along one.nodes leads.node.path) next ∙ ap (keys_along (board_of after).nodes) (sym there.path)));
+      reads = reads_on before after event lawful is path.watch.sets path.lemmas_read path.events_read leads.reads;
     }
 
 -- ---- up and down, of slices that show the fields and of the search that callers see
@@ -260,14 +289,29 @@ leads_on before after event lawful facts is path leads =
 -- a child's literal may be pushed
 pub record MayEnter (search : Search) (path : Path) (child : ℕ) (lit : Lit) (earlier : List Lit) : Type 0 where
   pub can : CanPush path.branch lit
-  pub enters : (new : Path) → new.node ≡ child → new.branch ≡ record path.branch { lits = path.branch.lits ++ lit ∷ [] } → new.barred ≡ path.barred ++ earlier → LeadsTo search new
+  pub enters : (new : Path) → HasEntered path child lit earlier new → LeadsTo search new
 
 -- the path may go back to the parent
 pub record MayLeave (search : Search) (path : Path) (parent count : ℕ) : Type 0 where
   pub some : 0 < length path.branch.lits
   pub barred : count ≤ length path.barred
+  pub keys : count < length path.watch.path
   pub up : parent < path.node
-  pub leaves : (new : Path) → new.node ≡ parent → new.branch ≡ record path.branch { lits = take (length path.branch.lits - 1) path.branch.lits } → new.barred ≡ take (length path.barred - count) path.barred → LeadsTo search new
+  pub leaves : (new : Path) → HasLeft path parent count new → LeadsTo search new
+
+keys_length : (lit : Lit) (earlier : List Lit) → length (keys_of (lit ∷ []) earlier) ≡ length earlier + 1
+keys_length lit earlier = by earlier
+  where
+    by : (lits : List Lit) → length (keys_of (lit ∷ []) lits) ≡ length lits + 1
+    by [] = refl
+    by (one ∷ lits) = let rest = by lits in omega (arith, rest)
+
+-- what was read is the same
+same_reads : (search : Search) (before after : Path) → HasRead search before.watch.sets before.lemmas_read before.events_read → (path : List Key) → after.watch ≡ record before.watch { path = path } → after.lemmas_read ≡ before.lemmas_read → after.events_read ≡ before.events_read
+    → HasRead search after.watch.sets after.lemmas_read after.events_read
+same_reads search before after reads path watch lemmas events =
+    subst (λ (sets : List (Owned Key)). HasRead search sets after.lemmas_read after.events_read) (sym (ap (λ (one : Watched). one.sets) watch))
+    (subst (λ n. HasRead search before.watch.sets n after.events_read) (sym lemmas) (subst (λ n. HasRead search before.watch.sets before.lemmas_read n) (sym events) reads))
 
 taken : {X : Type 0} (xs ys zs : List X) (count : ℕ) → xs ≡ ys ++ zs → count ≡ length zs → take (length xs - count) xs ≡ ys
 taken xs ys zs count is size =
@@ -322,18 +366,26 @@ module _ (search value : Search) (same : search ≡ value) (cells seen_cells : L
       let lits : path.branch.lits ≡ below.node.lits ++ below.lit ∷ [] = leads.lits ∙ below.lits in
       let bars : path.barred ≡ bars_along (board_of value).nodes below.node.path ++ earlier =
       leads.barred ∙ (below.bars ∙ ap (λ more. bars_along (board_of value).nodes below.node.path ++ more) (sym (earlier_is ∙ seen_earlier parent path.node))) in
+      let keys : path.watch.path ≡ keys_along (board_of value).nodes below.node.path ++ keys_of (below.lit ∷ []) earlier =
+      leads.keys ∙ (below.keys ∙ ap (λ more. keys_along (board_of value).nodes below.node.path ++ keys_of (below.lit ∷ []) more) (sym (earlier_is ∙ seen_earlier parent path.node))) in
+      let keys_size = ap length keys ∙ length-append (keys_along (board_of value).nodes below.node.path) (keys_of (below.lit ∷ []) earlier) in
+      let step_size = keys_length below.lit earlier in
       let size = ap length lits ∙ length-append below.node.lits (below.lit ∷ []) in
       let barred_size = ap length bars ∙ length-append (bars_along (board_of value).nodes below.node.path) earlier in
       record {
         some = omega (arith, size);
         barred = omega (arith, barred_size, count_is);
+        keys = omega (arith, keys_size, step_size, count_is);
         up = below.below;
-        leaves = λ new node branch barred. record {
+        leaves = λ new left. record {
           node = below.node;
-          is = ap (slice_get (board_of value).nodes) node ∙ below.is;
-          problem = ap (λ (one : BranchData). one.problem) branch ∙ leads.problem;
-          lits = ap (λ (one : BranchData). one.lits) branch ∙ taken path.branch.lits below.node.lits (below.lit ∷ []) 1 lits refl;
-          barred = barred ∙ taken path.barred (bars_along (board_of value).nodes below.node.path) earlier count bars count_is;
+          is = ap (slice_get (board_of value).nodes) left.node ∙ below.is;
+          problem = ap (λ (one : BranchData). one.problem) left.branch ∙ leads.problem;
+          lits = ap (λ (one : BranchData). one.lits) left.branch ∙ taken path.branch.lits below.node.lits (below.lit ∷ []) 1 lits refl;
+          barred = left.barred ∙ taken path.barred (bars_along (board_of value).nodes below.node.path) earlier count bars count_is;
+          keys = ap (λ (one : Watched). one.path) left.watch
+              ∙ taken path.watch.path (keys_along (board_of value).nodes below.node.path) (keys_of (below.lit ∷ []) earlier) (count + 1) keys (omega (arith, step_size, count_is));
+          reads = same_reads value path new leads.reads (take (length path.watch.path - (count + 1)) path.watch.path) left.watch left.lemmas left.events;
         };
       }
 
@@ -366,12 +418,16 @@ module _ (search value : Search) (same : search ≡ value) (cells seen_cells : L
       let branch_is : path.branch ≡ record { problem = value.problem; lits = path.branch.lits } = λ i. record { problem = leads.problem i; lits = path.branch.lits } in
       record {
         can = subst (λ (one : BranchData). CanPush one lit) (sym branch_is) can;
-        enters = λ new node branch barred. record {
+        enters = λ new entered. record {
           node = here;
-          is = ap (slice_get (board_of value).nodes) node ∙ at;
-          problem = ap (λ (one : BranchData). one.problem) branch ∙ leads.problem;
-          lits = ap (λ (one : BranchData). one.lits) branch ∙ sym lits;
-          barred = barred
+          is = ap (slice_get (board_of value).nodes) entered.node ∙ at;
+          problem = ap (λ (one : BranchData). one.problem) entered.branch ∙ leads.problem;
+          lits = ap (λ (one : BranchData). one.lits) entered.branch ∙ sym lits;
+          keys = ap (λ (one : Watched). one.path) entered.watch
+              ∙ (ap₂ (λ front back. front ++ back) (leads.keys ∙ ap (λ (one : Node). keys_along (board_of value).nodes one.path) (sym node_same)) (ap₂ (λ one bars. keys_of (one ∷ []) bars) (sym own) (earlier_is ∙ seen_earlier path.node child))
+              ∙ sym below.keys);
+          reads = same_reads value path new leads.reads (path.watch.path ++ keys_of (lit ∷ []) earlier) entered.watch entered.lemmas entered.events;
+          barred = entered.barred
               ∙ (ap₂ (λ front back. front ++ back) (leads.barred ∙ ap (λ (one : Node). bars_along (board_of value).nodes one.path) (sym node_same)) (earlier_is ∙ seen_earlier path.node child)
               ∙ sym below.bars);
         };
@@ -395,10 +451,14 @@ module _ (search value : Search) (same : search ≡ value) (cells seen_cells : L
   pub met_within : (number top : ℕ) (met : List ℕ) → HasMet (board_of value).nodes number top met → top < length seen_cells
   met_within number top met has = seen_there top (within (board_of value).nodes top has.high has.is)
 
--- what holds of an answer holds with all that it gives
-pub all_ok : {X E : Type 0} (answer : Result X E) (P Q R S : Type 0) → (P → Q → R → S) → OnOk answer P → OnOk answer Q → OnOk answer R → OnOk answer S
-all_ok (Ok x) P Q R S then p q r = then p q r
-all_ok (Err e) P Q R S then p q r = tt
+-- what follows of an answer
+pub ok_then : {X E : Type 0} (answer : Result X E) (P Q : Type 0) → (P → Q) → OnOk answer P → OnOk answer Q
+ok_then (Ok x) P Q then p = then p
+ok_then (Err e) P Q then p = tt
+
+pub ok_two : {X E : Type 0} (answer : Result X E) (P Q R : Type 0) → (P → Q → R) → OnOk answer P → OnOk answer Q → OnOk answer R
+ok_two (Ok x) P Q R then p q = then p q
+ok_two (Err e) P Q R then p q = tt
 
 some_at : {X : Type 0} (xs : List X) (index : ℕ) → index < length xs → (x : X) × (slice_get xs index ≡ Some x)
 some_at [] index small = absurd (omega (arith, small))
@@ -493,4 +553,7 @@ leads_root search facts problem same path at =
       problem = ap (λ (one : BranchData). one.problem) at.branch ∙ same;
       lits = ap (λ (one : BranchData). one.lits) at.branch ∙ sym lits;
       barred = at.barred ∙ sym (ap (bars_along (board_of search).nodes) root_path);
+      keys = ap (λ (one : Watched). one.path) at.watch ∙ sym (ap (keys_along (board_of search).nodes) root_path);
+      reads = subst (λ (sets : List (Owned Key)). HasRead search sets path.lemmas_read path.events_read) (sym (ap (λ (one : Watched). one.sets) at.watch))
+          (subst (λ n. HasRead search [] n path.events_read) (sym at.lemmas) (subst (λ n. HasRead search [] 0 n) (sym at.events) (nothing_read search)));
     }

@@ -86,6 +86,16 @@ module _ (setting : Setting) (board : Board) (event : Event) (lawful : IsLawful 
         | inr (inr (j, place, there)) ↦ inr (inr (j, record { other = own.other; is = there; same = own.same }))
       ]
 
+  -- the same of a node that is not the event's
+  pub comes_apart : (k : ℕ) (node : Node) → k ≢ node_of event → slice_get after.nodes k ≡ Some node → HasBare board.nodes k node ⊎ ((j : ℕ) × HasBare (born board lawful.node event) j node)
+  comes_apart k node apart at =
+      let own = same_at after.nodes (moved board lawful.node event).nodes (effect_bare setting board event lawful) k node at in
+      elim (whence board.nodes (born board lawful.node event) (node_of event) lawful.node (settled board lawful.node event) k own.other lawful.is own.is) [
+        | inl (same, new) ↦ absurd (apart same)
+        | inr (inl (out, old)) ↦ inl (record { other = own.other; is = old; same = own.same })
+        | inr (inr (j, place, there)) ↦ inr (j, record { other = own.other; is = there; same = own.same })
+      ]
+
   pub nodes_length : length after.nodes ≡ length board.nodes + length (born board lawful.node event)
   nodes_length =
       sym (map_length bare after.nodes)

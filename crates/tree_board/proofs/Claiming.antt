@@ -45,13 +45,6 @@ use Rattle.tree_board.proofs.NodeBranches.{open_branch}
 use Rattle.tree_board.proofs.Places.{same_some, some_none}
 use Rattle.tree_board.proofs.QuickSettling.{same_node}
 
--- ---- what settles a node at once
-
-pub quick_settles : (search : Search) (number : ℕ) (found : Option Quick) → IsQuickAt search number found → IsSettling (setting_of search) (board_of search) number (option_map (quick_event number) found)
-quick_settles search number None untouched = untouched
-quick_settles search number (Some (QuickByLemma lemma)) lawful = (refl, tt, lawful)
-quick_settles search number (Some (QuickCovered cover)) lawful = (refl, tt, lawful)
-
 -- ---- open nodes
 
 module _ (value : Search) (cells : List Cell) (closures : List Closure) (lemmas : List Pair) (lemma_nodes : List ℕ) (extends : ℕ) (keeping : IsKeeping value cells closures lemmas lemma_nodes extends) where

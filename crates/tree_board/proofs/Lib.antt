@@ -1,5 +1,7 @@
 pub mod Births
 pub mod Examples
+pub mod PathReading
+pub mod WatchSettling
 pub mod Places
 pub mod Growth
 pub mod Cleaning

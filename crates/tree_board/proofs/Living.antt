@@ -111,7 +111,7 @@ found_not_split : (inst : Inst) (first : ℕ) (state : NodeState) → state ≡ 
 found_not_split inst first state e f = cc
 
 -- a found node is above no other
-found_above_none : (setting : Setting) (board : Board) → IsBoard setting board → (a b : ℕ) (one two : Node) → slice_get board.nodes a ≡ Some one → slice_get board.nodes b ≡ Some two → one.state ≡ Found → a ≢ b → IsAmong two.path a → ⊥
+pub found_above_none : (setting : Setting) (board : Board) → IsBoard setting board → (a b : ℕ) (one two : Node) → slice_get board.nodes a ≡ Some one → slice_get board.nodes b ≡ Some two → one.state ≡ Found → a ≢ b → IsAmong two.path a → ⊥
 found_above_none setting board facts a b one two is_a is_b state apart there =
     let own = facts.each b two is_b in
     elim (subst (λ path. IsAmong path a) own.path there) [

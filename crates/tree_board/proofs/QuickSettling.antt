@@ -20,7 +20,7 @@ use Rattle.tree_board.specs.Keeping.{IsKeeping}
 use Rattle.tree_board.specs.Lawful.{applies_at, cover_for, lemma_for}
 use Rattle.tree_board.specs.NodeStates.{is_found}
 use Rattle.tree_board.specs.Nodes.{Node}
-use Rattle.tree_board.specs.Quick.{IsOpenWith, NoneIsTouched, covers_lits, cover_in, some_found_in}
+use Rattle.tree_board.specs.Quick.{IsOpenWith, covers_lits, cover_in}
 use Rattle.tree_board.specs.Readers.{lits_of}
 use Rattle.tree_board.specs.Searches.{Search, board_of, setting_of}
 use Rattle.tree_board.specs.Settling.{IsOpenAt, IsSettlingBy, IsUntouched}
@@ -49,12 +49,6 @@ module _ {X : Type 0} (p : X → Bool) where
       ap (λ n. cond (nat_lt n (length (x ∷ xs))) (Some n) None) place
       ∙ cond-false (nat_lt (length (x ∷ xs)) (length (x ∷ xs))) (Some (length (x ∷ xs))) None (le-ltb (length (x ∷ xs)) (length (x ∷ xs)) (omega arith))
 
-  -- where no element passes
-  pub none_any : (xs : List X) → list_any p xs ≡ false → (k : ℕ) (x : X) → slice_get xs k ≡ Some x → p x ≡ false
-  none_any [] none k x at = absurd (let bad : ⊥ = cc in bad)
-  none_any (y ∷ xs) none zero x at = subst (λ (z : X). p z ≡ false) (same_some y x at) (both_false (p y) (list_any p xs) none).0
-  none_any (y ∷ xs) none (suc k) x at = none_any xs (both_false (p y) (list_any p xs) none).1 k x at
-
 -- ---- covering
 
 -- by the literals alone
@@ -64,10 +58,6 @@ cover_is ListAll board node lits held = ap (cover_in ListAll board.nodes) held
 
 not_found : (other : Node) (lits : List Lit) → is_found other.state ≡ false → covers_lits lits other ≡ false
 not_found other lits unmet = ap (λ b. b && is_proper_part other.lits lits) unmet
-
-pub never_covered : (mode : Mode) (board : Board) (node : Node) → list_any (λ (one : Node). is_found one.state) board.nodes ≡ false → cover_for mode board node ≡ None
-never_covered Refute board node none = refl
-never_covered ListAll board node none = position_nowhere (covers_lits node.lits) board.nodes (λ k x at. not_found x node.lits (none_any (λ (one : Node). is_found one.state) board.nodes none k x at))
 
 -- before each number, no node covers
 abbrev pub NoneBefore : List Node → List Lit → ℕ → Type 0
@@ -96,17 +86,6 @@ none_covers nodes lits number before all =
     sym (position_nowhere (covers_lits lits) nodes (λ k other at. let small = slice_get_within nodes k other at in before k (omega (arith, small, all)) other at))
 
 -- ---- kept lemmas
-
-pub no_lemma : (board : Board) (node : Node) → length board.kept ≡ 0 → lemma_for board node ≡ None
-no_lemma board node none = ap (option_map (λ index. suc index)) (by board.kept none)
-  where
-    by : (kept : List Kept) → length kept ≡ 0 → position (applies_at node) kept ≡ None
-    by [] empty = refl
-    by (one ∷ more) some = absurd (omega (arith, some))
-
-length_map : {X Y : Type 0} (f : X → Y) (xs : List X) → length (map f xs) ≡ length xs
-length_map f [] = refl
-length_map f (x ∷ xs) = ap suc (length_map f xs)
 
 pub same_node : (board : Board) (number : ℕ) (lits barred : List Lit) → (opened : IsOpenWith board number lits barred) → (node : Node) → slice_get board.nodes number ≡ Some node → opened.node ≡ node
 same_node board number lits barred opened node at = same_some opened.node node (sym opened.is ∙ at)
@@ -149,18 +128,6 @@ module _ (value : Search) (cells : List Cell) (closures : List Closure) (lemmas 
       let found : is_found node.state ≡ true = same_some (is_found node.state) true (sym (found_here number node at) ∙ holds_now) in
       let own : node.lits ≡ set = same_some node.lits set (sym (ap (option_map (λ (one : Node). one.lits)) at) ∙ set_is) in
       ap (option_map (covers_lits lits)) at ∙ ap Some (ap₂ (λ b held. b && is_proper_part held lits) found own)
-
-  -- no lemma, and no found node that may cover
-  pub none_touched : length lemmas ≡ 0 → (value.mode ≡ Refute) → NoneIsTouched (setting_of value) (board_of value)
-  none_touched none refute number node at =
-      (no_lemma (board_of value) node (sym (length_map (λ (one : Kept). one.pair) (board_of value).kept) ∙ (ap length (sym keeping.stand.pairs) ∙ none)), ap (λ mode. cover_for mode (board_of value) node) refute)
-
-  pub none_touched_unfound : length lemmas ≡ 0 → some_found_in cells ≡ false → NoneIsTouched (setting_of value) (board_of value)
-  none_touched_unfound none unfound number node at = (
-    no_lemma (board_of value) node (sym (length_map (λ (one : Kept). one.pair) (board_of value).kept) ∙ (ap length (sym keeping.stand.pairs) ∙ none)),
-    never_covered value.mode (board_of value) node
-        (sym (any_seen value.journal closures (board_of value).kept is_found_set is_found (found_same value.journal closures (board_of value).kept) 0 cells (board_of value).nodes keeping.stand.nodes) ∙ unfound),
-  )
 
   module _ (number : ℕ) (lits barred : List Lit) (opened : IsOpenWith (board_of value) number lits barred) where
     pub lemma_is : first_applying lemmas lits barred ≡ lemma_for (board_of value) opened.node

@@ -16,6 +16,7 @@ use Rattle.tree_board.specs.Cells.{parent_of}
 use Rattle.tree_board.specs.Facts.{HasChildren, IsBoard, IsPath}
 use Rattle.tree_board.specs.Keeping.{IsKeeping}
 use Rattle.tree_board.specs.Nodes.{Node}
+use Rattle.tree_board.specs.Paths.{literal_by}
 use Rattle.tree_board.specs.Readers.{case_in, first_child_of, instance_of, literal_from, literal_in, lits_of, shown}
 use Rattle.tree_board.specs.Settings.{Setting}
 use Rattle.tree_board.specs.Searches.{Search, setting_of, board_of}
@@ -74,10 +75,6 @@ case_of nodes first above held bars (lit ∷ more) (child, children) number from
         gives = ap (slice_get (lit ∷ more)) place ∙ rest.gives;
       }
 ]
-
--- what the parent's state gives a node
-abbrev pub literal_by : List Node → ℕ → ℕ → Option Lit
-literal_by nodes number parent = option_and_then (λ first. option_and_then (λ (inst : Inst). case_in inst first number) (shown instance_of nodes parent)) (shown first_child_of nodes parent)
 
 -- a node that its parent's event made
 pub record ComesFrom (nodes : List Node) (number parent : ℕ) (here : Node) : Type 0 where

@@ -39,4 +39,5 @@ pub mod Claims
 pub mod FoundSets
 pub mod NextOpen
 pub mod BarredIndices
+pub mod PathReads
 pub mod Paths

@@ -1,17 +1,13 @@
 -- What settles an open node at once, by its literals and its barred set.
-use Rattle.std.specs.List.{list_any, position}
+use Rattle.std.specs.List.{position}
 use Rattle.std.specs.Prelude.{ℕ, Bool, List, None, Option, Some, slice_get, ◌&&◌, ◌≡◌}
 use Rattle.mg_word.specs.Sets.{is_proper_part}
 use Rattle.mg_word.specs.declared.lit.Lit.{Lit}
-use Rattle.tree_board.specs.declared.cell.Cell.{Cell}
 use Rattle.tree_board.specs.declared.mode.Mode.{Mode}
 use Rattle.tree_board.specs.declared.mode.Mode.TheVariants.{List as ListAll, Refute}
 use Rattle.tree_board.specs.Boards.{Board}
-use Rattle.tree_board.specs.CellStanding.{is_found_set}
 use Rattle.tree_board.specs.NodeStates.{Open, is_found}
 use Rattle.tree_board.specs.Nodes.{Node}
-use Rattle.tree_board.specs.Settings.{Setting}
-use Rattle.tree_board.specs.Settling.{IsUntouched}
 
 -- the node is found, and its set is a proper part of the literals
 abbrev pub covers_lits : List Lit → Node → Bool
@@ -29,11 +25,3 @@ pub record IsOpenWith (board : Board) (number : ℕ) (lits barred : List Lit) : 
   pub opened : node.state ≡ Open
   pub held : node.lits ≡ lits
   pub bars : node.barred ≡ barred
-
--- no node is touched by a kept lemma or a found set
-abbrev pub NoneIsTouched : Setting → Board → Type 0
-NoneIsTouched setting board = (number : ℕ) → IsUntouched setting board number
-
--- some cell is that of a found node
-abbrev pub some_found_in : List Cell → Bool
-some_found_in cells = list_any (λ cell. is_found_set cell.settled) cells

@@ -1,15 +1,17 @@
 //! The way from the root to a node, which is moved along with the search.
 
-ghost use Rattle.std.specs.Prelude.{◌≡◌, ◌-◌, ◌<◌, ◌≤◌, ◌++◌, ◌∷◌, ◌||◌, [], IfOk, OnOk, length, take};
+ghost use Rattle.std.specs.Prelude.{◌≡◌, ◌+◌, ◌<◌, ◌≤◌, ◌++◌, ◌∷◌, ◌||◌, [], IfOk, OnOk, length};
 ghost use Rattle.std.specs.Arc.{arc_value};
 ghost use Rattle.mg_word.specs.Sets.{holds};
 ghost use Rattle.case_split.specs.Splitting.{closure_by};
 ghost use Rattle.mg_word.specs.Words.{complement_of};
 ghost use Rattle.model_extend.specs.Branches.{CanPush};
+ghost use Rattle.key_watch.specs.Keys.{keys_of};
 ghost use Rattle.tree_board.specs.CellMoves.{AreReasons};
 ghost use Rattle.tree_board.specs.Events.{node_of};
 ghost use Rattle.tree_board.specs.Facts.{IsChildOf};
-ghost use Rattle.tree_board.specs.Paths.{IsAtRoot, IsUnshut, LeadsNear, LeadsTo, reasons_from};
+ghost use Rattle.tree_board.specs.PathReads.{HasAllSets, found_by};
+ghost use Rattle.tree_board.specs.Paths.{HasEntered, HasLeft, IsAtRoot, IsUnshut, LeadsNear, LeadsTo, reasons_from};
 ghost use Rattle.tree_board.specs.Searches.{board_of, setting_of};
 ghost use Rattle.tree_board.specs.Settling.{IsOpenAt};
 ghost use Rattle.tree_board.specs.Workers.{IsKnown};
@@ -17,8 +19,9 @@ ghost use Rattle.tree_board.specs.Workers.{IsKnown};
 use crate::barred::Barred;
 use crate::barring::earlier_at;
 use crate::cell::{literal_at, parent_at};
-use crate::{Board, Event};
+use crate::{Board, Event, Mode};
 use case_split::Closure;
+use key_watch::{Owner, Side, Watch};
 use mg_meaning::holds_lit;
 use mg_word::{Lit, NoMemory, Problem};
 use model_extend::{Branch, Mark};
@@ -26,7 +29,6 @@ use std::alloc::Global;
 use std::sync::Arc;
 
 /// The way from the root to a node.
-#[derive(Drop)]
 pub struct Path {
     /// The number of the node.
     pub node: u32,
@@ -34,6 +36,47 @@ pub struct Path {
     pub branch: Branch,
     /// What the nodes on the way bar, of each the conclusions before its own.
     pub barred: Barred,
+    /// Both again, beside the sets of literals that settle a node which holds or bars them.
+    pub watch: Watch,
+    /// How many kept lemmas the watch has.
+    pub lemmas_read: u32,
+    /// Of how many events the watch has the found sets.
+    pub events_read: usize,
+}
+
+/// A function of its own, so that dropping a path is one step for whoever does.
+impl Drop for Path {
+    fn drop(self) {
+        let Path {
+            node: _,
+            branch: _,
+            barred: _,
+            watch: _,
+            lemmas_read: _,
+            events_read: _,
+        } = self;
+    }
+}
+
+// Puts a literal that is held on the path of the watch, and those that are barred beside it.
+fn put_keys(alloc: Global, watch: &mut Watch, lit: &Lit, earlier: &[Lit]) -> Result<(), NoMemory>
+    ensures { OnOk result (watch.new ≡ record watch.old { path = watch.old.path ++ keys_of (lit.now ∷ []) earlier.now }) }
+{
+    watch.push(alloc, Side::Held, lit)?;
+    for one in earlier {
+        watch.push(alloc, Side::Barred, one)?;
+    }
+    Ok(())
+}
+
+// In mode List, the node at which the event finds a set.
+fn found_by(mode: Mode, event: &Event) -> Option<u32>
+    ensures { result ≡ found_by mode event.now }
+{
+    match (mode, event) {
+        (Mode::List, Event::Saturated { node }) => Some(*node),
+        _ => None,
+    }
 }
 
 impl Path {
@@ -45,18 +88,20 @@ impl Path {
             node: 0,
             branch: Branch::new(alloc, problem)?,
             barred: Barred::new(alloc),
+            watch: Watch::new(alloc)?,
+            lemmas_read: 0,
+            events_read: 0,
         })
     }
 
     // Goes on to a child, which has this literal, and bars these beside what its parent bars.
-    fn push(&mut self, node: u32, lit: &Lit, earlier: &[Lit]) -> Result<(), NoMemory>
+    fn push(&mut self, alloc: Global, node: u32, lit: &Lit, earlier: &[Lit]) -> Result<(), NoMemory>
         requires { CanPush self.old.branch lit.now }
-        ensures node { OnOk result (self.new.node ≡ node) }
-        ensures branch { OnOk result (self.new.branch ≡ record self.old.branch { lits = self.old.branch.lits ++ lit.now ∷ [] }) }
-        ensures barred { OnOk result (self.new.barred ≡ self.old.barred ++ earlier.now) }
+        ensures { OnOk result (HasEntered self.old node lit.now earlier.now self.new) }
     {
         self.branch.push(lit)?;
         self.barred.push_copies(earlier)?;
+        put_keys(alloc, &mut self.watch, lit, earlier)?;
         self.node = node;
         Ok(())
     }
@@ -65,15 +110,15 @@ impl Path {
     fn pop(&mut self, parent: u32, earlier: usize)
         requires some { 0 < length self.old.branch.lits }
         requires barred { earlier ≤ length self.old.barred }
-        ensures node { self.new.node ≡ parent }
-        ensures branch { self.new.branch ≡ record self.old.branch { lits = take (length self.old.branch.lits - 1) self.old.branch.lits } }
-        ensures barred { self.new.barred ≡ take (length self.old.barred - earlier) self.old.barred }
+        requires keys { earlier < length self.old.watch.path }
+        ensures { HasLeft self.old parent earlier self.new }
     {
         let mark = self.branch.mark();
         self.branch.pop_to(Mark {
             depth: mark.depth - 1,
         });
         self.barred.truncate(self.barred.len() - earlier);
+        self.watch.truncate(self.watch.len() - (earlier + 1));
         self.node = parent;
     }
 
@@ -127,7 +172,7 @@ impl Board {
     }
 
     // Goes down from the path's node to its child with this number.
-    fn enter(&self, path: &mut Path, child: u32) -> Result<(), NoMemory>
+    fn enter(&self, alloc: Global, path: &mut Path, child: u32) -> Result<(), NoMemory>
         requires leads { LeadsTo self.now path.old }
         requires child { IsChildOf (board_of self.now).nodes child path.old.node }
         requires unshut { IsUnshut (board_of self.now) child }
@@ -140,7 +185,7 @@ impl Board {
             return Ok(());
         };
         let earlier = earlier_at(cells, journal, path.node, child);
-        path.push(child, lit, earlier)
+        path.push(alloc, child, lit, earlier)
     }
 
     // Goes up to the first node that is this one or above it, and answers the nodes from this one up to there, which is left
@@ -164,7 +209,13 @@ impl Board {
     }
 
     // Goes down by these nodes, the last of them first, to the open node with this number.
-    fn go_down(&self, path: &mut Path, node: u32, met: Vec<u32>) -> Result<(), NoMemory>
+    fn go_down(
+        &self,
+        alloc: Global,
+        path: &mut Path,
+        node: u32,
+        met: Vec<u32>,
+    ) -> Result<(), NoMemory>
         requires known { IsKnown (setting_of self.now) (board_of self.now) }
         requires near { LeadsNear self.now node path.old met.items }
         requires opened { IsOpenAt (board_of self.now) node }
@@ -173,21 +224,83 @@ impl Board {
     {
         let mut ahead = met;
         'down: while let Some(child) = ahead.pop() {
-            self.enter(path, child)?;
+            self.enter(alloc, path, child)?;
         }
         Ok(())
     }
 
-    /// Moves the path to the open node with this number.
+    // Lets the watch of the path have the kept lemmas that it has not.
+    fn read_lemmas(&self, alloc: Global, path: &mut Path) -> Result<(), NoMemory>
+        requires { LeadsTo self.now path.old }
+        ensures leads { OnOk result (LeadsTo self.now path.new) }
+        ensures node { OnOk result (path.new.node ≡ path.old.node) }
+        ensures all { OnOk result (length (board_of self.now).kept ≤ path.new.lemmas_read) }
+    {
+        'lemmas: while path.lemmas_read < self.lemmas.len() {
+            let number = path.lemmas_read + 1;
+            let Some(lemma) = self.lemma(number) else {
+                return Ok(());
+            };
+            let inside = lemma.inside.as_slice();
+            let outside = lemma.outside.as_slice();
+            path.watch
+                .add(alloc, inside, outside, Owner::Lemma(number))?;
+            path.lemmas_read = number;
+        }
+        Ok(())
+    }
+
+    // Lets the watch of the path have the set that the next event found, if it found one.
+    fn read_event(&self, alloc: Global, path: &mut Path) -> Result<(), NoMemory>
+        requires known { IsKnown (setting_of self.now) (board_of self.now) }
+        requires leads { LeadsTo self.now path.old }
+        requires some { path.old.events_read < length self.now.journal }
+        ensures leads { OnOk result (LeadsTo self.now path.new) }
+        ensures node { OnOk result (path.new.node ≡ path.old.node) }
+        ensures lemmas { OnOk result (path.new.lemmas_read ≡ path.old.lemmas_read) }
+        ensures events { OnOk result (path.new.events_read ≡ path.old.events_read + 1) }
+    {
+        let event = &self.journal()[path.events_read];
+        let Some(node) = found_by(self.mode(), event) else {
+            path.events_read += 1;
+            return Ok(());
+        };
+        let set = self.lits_at(alloc, node)?;
+        path.watch
+            .add(alloc, set.as_slice(), &[], Owner::Found(node))?;
+        path.events_read += 1;
+        Ok(())
+    }
+
+    // Lets the watch of the path, which has all kept lemmas, have the found sets that it has not.
+    fn read_events(&self, alloc: Global, path: &mut Path) -> Result<(), NoMemory>
+        requires known { IsKnown (setting_of self.now) (board_of self.now) }
+        requires leads { LeadsTo self.now path.old }
+        requires lemmas { length (board_of self.now).kept ≤ path.old.lemmas_read }
+        ensures leads { OnOk result (LeadsTo self.now path.new) }
+        ensures node { OnOk result (path.new.node ≡ path.old.node) }
+        ensures sets { OnOk result (HasAllSets self.now path.new.watch.sets) }
+    {
+        let count = self.journal().len();
+        'events: while path.events_read < count {
+            self.read_event(alloc, path)?;
+        }
+        Ok(())
+    }
+
+    /// Moves the path to the open node with this number, and lets its watch have all that may settle the node.
     pub(crate) fn go(&self, alloc: Global, path: &mut Path, node: u32) -> Result<(), NoMemory>
         requires known { IsKnown (setting_of self.now) (board_of self.now) }
         requires leads { LeadsTo self.now path.old }
         requires opened { IsOpenAt (board_of self.now) node }
         ensures leads { OnOk result (LeadsTo self.now path.new) }
         ensures node { OnOk result (path.new.node ≡ node) }
+        ensures sets { OnOk result (HasAllSets self.now path.new.watch.sets) }
     {
         let met = self.go_up(alloc, path, node)?;
-        self.go_down(path, node, met)
+        self.go_down(alloc, path, node, met)?;
+        self.read_lemmas(alloc, path)?;
+        self.read_events(alloc, path)
     }
 
     /// Why the cases that the event makes are closed at once that are, where the path leads to the event's node.

@@ -1,16 +1,21 @@
 //! Open nodes that a kept lemma or a found set settles.
 
-ghost use Rattle.std.specs.Prelude.{◌≡◌, ◌<◌, false, IfOk, Some, length, option_map, slice_get};
+ghost use Rattle.std.specs.Prelude.{◌≡◌, ◌<◌, IfOk, Some, length, option_map, slice_get};
 ghost use Rattle.std.specs.List.{position};
 ghost use Rattle.mg_word.specs.Sets.{is_proper_part};
 ghost use Rattle.tree_board.specs.CellStanding.{is_found_set};
-ghost use Rattle.tree_board.specs.Claims.{IsQuickAt, quick_event};
-ghost use Rattle.tree_board.specs.Quick.{IsOpenWith, NoneIsTouched, covers_lits, cover_in, some_found_in};
+ghost use Rattle.tree_board.specs.Claims.{IsQuickAt};
+ghost use Rattle.tree_board.specs.PathReads.{HasAllSets, event_by};
+ghost use Rattle.tree_board.specs.Paths.{LeadsTo};
+ghost use Rattle.tree_board.specs.Quick.{IsOpenWith, covers_lits, cover_in};
 ghost use Rattle.tree_board.specs.Searches.{setting_of, board_of};
 ghost use Rattle.tree_board.specs.Settling.{IsOpenAt, IsSettling};
+ghost use Rattle.tree_board.specs.Workers.{IsKnown};
 
 use crate::cell::Cell;
+use crate::path::Path;
 use crate::{Board, Event, Mode};
+use key_watch::Owner;
 use mg_meaning::is_part_of;
 use mg_word::{Lit, LitSet, NoMemory};
 use std::alloc::Global;
@@ -22,13 +27,13 @@ pub enum Quick {
     Covered(u32),
 }
 
-// The event of what settles the node at once.
-fn event_of(node: u32, quick: Option<Quick>) -> Option<Event>
-    ensures { result ≡ option_map (quick_event node) quick }
+// The event by which a lemma or a found set settles the node.
+fn event_of(node: u32, owner: Option<Owner>) -> Option<Event>
+    ensures { result ≡ option_map (event_by node) owner }
 {
-    match quick {
-        Some(Quick::ByLemma(lemma)) => Some(Event::ByLemma { node, lemma }),
-        Some(Quick::Covered(by)) => Some(Event::Covered { node, by }),
+    match owner {
+        Some(Owner::Lemma(lemma)) => Some(Event::ByLemma { node, lemma }),
+        Some(Owner::Found(by)) => Some(Event::Covered { node, by }),
         None => None,
     }
 }
@@ -39,12 +44,6 @@ pub(crate) fn is_found_at(cells: &[Cell], node: u32) -> bool
     ensures { option_map (λ cell. is_found_set cell.settled) (slice_get cells.now node) ≡ Some result }
 {
     cells[node as usize].settled.is_found()
-}
-
-fn some_found(cells: &[Cell]) -> bool
-    ensures { result ≡ some_found_in cells.now }
-{
-    cells.iter().any(|cell| cell.settled.is_found())
 }
 
 // Whether the first list is a proper part of the second.
@@ -89,19 +88,6 @@ impl Board {
         }
     }
 
-    // Whether there is anything by which a node may be settled at once.
-    fn may_settle(&self) -> bool
-        ensures { result ≡ false → NoneIsTouched (setting_of self.now) (board_of self.now) }
-    {
-        if self.lemmas.len() > 0 {
-            return true;
-        }
-        match self.mode {
-            Mode::Refute => false,
-            Mode::List => some_found(self.cells.as_slice()),
-        }
-    }
-
     // What settles the open node with these literals and this barred set at once: the least kept lemma that applies, or else
     // the least found node that covers it.
     pub(crate) fn quick_at(
@@ -124,17 +110,14 @@ impl Board {
     }
 
     /// The event by which the least kept lemma that applies, or else in mode List the least found set that is a proper part
-    /// of the literals, settles the open node with this number, if one does.
-    pub(crate) fn settling(&self, alloc: Global, node: u32) -> Result<Option<Event>, NoMemory>
-        requires { IsOpenAt (board_of self.now) node }
-        ensures { IfOk result (IsSettling (setting_of self.now) (board_of self.now) node) }
+    /// of the literals, settles the open node to which the path leads, if one does.
+    pub(crate) fn settling(&self, path: &Path) -> Option<Event>
+        requires known { IsKnown (setting_of self.now) (board_of self.now) }
+        requires opened { IsOpenAt (board_of self.now) path.now.node }
+        requires leads { LeadsTo self.now path.now }
+        requires sets { HasAllSets self.now path.now.watch.sets }
+        ensures { IsSettling (setting_of self.now) (board_of self.now) path.now.node result }
     {
-        if !self.may_settle() {
-            return Ok(None);
-        }
-        let lits = self.lits_at(alloc, node)?;
-        let barred = self.barred_at(alloc, node)?;
-        let quick = self.quick_at(alloc, node, lits.as_slice(), &barred)?;
-        Ok(event_of(node, quick))
+        event_of(path.node, path.watch.least())
     }
 }

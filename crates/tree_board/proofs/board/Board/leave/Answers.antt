@@ -11,8 +11,11 @@ pop-requires-clause-some c = (may_leave _ _ c.self.view_is _ _ _ _ _ _ c.self.in
 pub pop-requires-clause-barred : goal.pop-requires-clause-barred
 pop-requires-clause-barred c = (may_leave _ _ c.self.view_is _ _ _ _ _ _ c.self.invariant _ c.as_slice-cells.ensures.value c.as_slice.ensures.value c.args.path.now c.requires.leads c.requires.below _ c.parent_at-parent.ensures _ c.earlier_at-earlier.ensures _ refl).barred
 
+pub pop-requires-clause-keys : goal.pop-requires-clause-keys
+pop-requires-clause-keys c = (may_leave _ _ c.self.view_is _ _ _ _ _ _ c.self.invariant _ c.as_slice-cells.ensures.value c.as_slice.ensures.value c.args.path.now c.requires.leads c.requires.below _ c.parent_at-parent.ensures _ c.earlier_at-earlier.ensures _ refl).keys
+
 pub returns-clause-leads : goal.returns-clause-leads
-returns-clause-leads c = (may_leave _ _ c.self.view_is _ _ _ _ _ _ c.self.invariant _ c.as_slice-cells.ensures.value c.as_slice.ensures.value c.args.path.now c.requires.leads c.requires.below _ c.parent_at-parent.ensures _ c.earlier_at-earlier.ensures _ refl).leaves c.pop.new.self c.pop.ensures.node c.pop.ensures.branch c.pop.ensures.barred
+returns-clause-leads c = (may_leave _ _ c.self.view_is _ _ _ _ _ _ c.self.invariant _ c.as_slice-cells.ensures.value c.as_slice.ensures.value c.args.path.now c.requires.leads c.requires.below _ c.parent_at-parent.ensures _ c.earlier_at-earlier.ensures _ refl).leaves c.pop.new.self c.pop.ensures
 
 pub returns-clause-up : goal.returns-clause-up
 returns-clause-up c = subst (λ n. n < c.args.path.now.node) (sym c.pop.ensures.node) (may_leave _ _ c.self.view_is _ _ _ _ _ _ c.self.invariant _ c.as_slice-cells.ensures.value c.as_slice.ensures.value c.args.path.now c.requires.leads c.requires.below _ c.parent_at-parent.ensures _ c.earlier_at-earlier.ensures _ refl).up
