@@ -11,16 +11,16 @@ pub print_refusal-requires : goal.print_refusal-requires
 print_refusal-requires g c = refusal_reportable (Models (search_seen c.args.search.now)) _ (seen c.in-Err.refusal) (c.in-Err.ensures.formed (Models (search_seen c.args.search.now)) refl)
 
 pub print-requires : goal.print-requires
-print-requires g c = listed_lines _ _ _ (listed_by c.in_ok-listing.listing) (listed _ _ _ c.in-Ok.problem c.in_ok-listing.listing c.in-Ok.ensures.formed c.in_ok-listing.ensures)
+print-requires g c = listed_lines _ _ _ (listed_by c.in_ok-listing-in-Ok.listing) (listed _ _ _ c.in-Ok.problem c.in_ok-listing-in-Ok.listing c.in-Ok.ensures.formed c.in_ok-listing-in-Ok.ensures)
 
-pub returns-in-Ok-clause-replies : goal.returns-in-Ok-clause-replies
-returns-in-Ok-clause-replies g c =
-    replies_answer (Models (search_seen c.args.search.now)) _ _ _ (listed_by c.in_ok-listing.listing) _
-    (listed _ _ _ c.in-Ok.problem c.in_ok-listing.listing c.in-Ok.ensures.formed (rw c.search_limits-limits.ensures at c.in_ok-listing.ensures)) c.in-Ok.ensures.counted
+pub returns-in_ok-listing-in-Ok-clause-replies : goal.returns-in_ok-listing-in-Ok-clause-replies
+returns-in_ok-listing-in-Ok-clause-replies g c =
+    replies_answer (Models (search_seen c.args.search.now)) _ _ _ (listed_by c.in_ok-listing-in-Ok.listing) _
+    (listed _ _ _ c.in-Ok.problem c.in_ok-listing-in-Ok.listing c.in-Ok.ensures.formed (rw c.search_limits-limits.ensures at c.in_ok-listing-in-Ok.ensures)) c.in-Ok.ensures.counted
     (rw (c.szs_name-name.ensures, c.search_limits-limits.ensures) at c.print.ensures)
 
-pub returns-in_err-listing-clause-replies : goal.returns-in_err-listing-clause-replies
-returns-in_err-listing-clause-replies g c = replies_memory (Models (search_seen c.args.search.now)) _ _ _ _ c.in-Ok.ensures.counted
+pub returns-in_err-listing-in-Ok-clause-replies : goal.returns-in_err-listing-in-Ok-clause-replies
+returns-in_err-listing-in-Ok-clause-replies g c = replies_memory (Models (search_seen c.args.search.now)) _ _ _ _ c.in-Ok.ensures.counted
 
 pub returns-in-Err-clause-replies : goal.returns-in-Err-clause-replies
 returns-in-Err-clause-replies g c =

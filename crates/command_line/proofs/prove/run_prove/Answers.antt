@@ -12,16 +12,16 @@ pub print_refusal-requires : goal.print_refusal-requires
 print_refusal-requires g c = refusal_reportable (Prove (search_seen c.args.search.now)) _ (seen c.in-Err.refusal) (c.in-Err.ensures.formed (Prove (search_seen c.args.search.now)) refl)
 
 pub print-requires : goal.print-requires
-print-requires g c = found_lines _ _ c.in_ok-outcome.ensures.found.ends
+print-requires g c = found_lines _ _ c.in_ok-outcome-in-Ok.ensures.found.ends
 
-pub returns-in-Ok-clause-replies : goal.returns-in-Ok-clause-replies
-returns-in-Ok-clause-replies g c =
-    replies_answer (Prove (search_seen c.args.search.now)) _ _ _ (proved_by c.in_ok-outcome.outcome) _
-    (proved _ _ _ c.in-Ok.problem _ _ c.in-Ok.ensures.formed (rw c.search_limits-limits.ensures at c.in_ok-outcome.ensures.run) c.in_ok-outcome.ensures.found) c.in-Ok.ensures.counted
+pub returns-in_ok-outcome-in-Ok-clause-replies : goal.returns-in_ok-outcome-in-Ok-clause-replies
+returns-in_ok-outcome-in-Ok-clause-replies g c =
+    replies_answer (Prove (search_seen c.args.search.now)) _ _ _ (proved_by c.in_ok-outcome-in-Ok.outcome) _
+    (proved _ _ _ c.in-Ok.problem _ _ c.in-Ok.ensures.formed (rw c.search_limits-limits.ensures at c.in_ok-outcome-in-Ok.ensures.run) c.in_ok-outcome-in-Ok.ensures.found) c.in-Ok.ensures.counted
     (rw (c.szs_name-name.ensures, c.search_limits-limits.ensures) at c.print.ensures)
 
-pub returns-in_err-outcome-clause-replies : goal.returns-in_err-outcome-clause-replies
-returns-in_err-outcome-clause-replies g c = replies_memory (Prove (search_seen c.args.search.now)) _ _ _ _ c.in-Ok.ensures.counted
+pub returns-in_err-outcome-in-Ok-clause-replies : goal.returns-in_err-outcome-in-Ok-clause-replies
+returns-in_err-outcome-in-Ok-clause-replies g c = replies_memory (Prove (search_seen c.args.search.now)) _ _ _ _ c.in-Ok.ensures.counted
 
 pub returns-in-Err-clause-replies : goal.returns-in-Err-clause-replies
 returns-in-Err-clause-replies g c =

@@ -10,16 +10,16 @@ pub print_refusal-requires : goal.print_refusal-requires
 print_refusal-requires c = refusal_reportable (Sample c.args.size 1 c.args.budget) None (seen c.in-Err.refusal) (c.in-Err.ensures 1 c.args.budget None)
 
 pub print-requires : goal.print-requires
-print-requires c = listed_lines None _ _ (listed_by c.in_ok-listing.listing) (listed None _ _ c.in-Ok.problem c.in_ok-listing.listing (c.in-Ok.ensures 1 c.args.budget None) c.in_ok-listing.ensures)
+print-requires c = listed_lines None _ _ (listed_by c.in_ok-listing-in-Ok.listing) (listed None _ _ c.in-Ok.problem c.in_ok-listing-in-Ok.listing (c.in-Ok.ensures 1 c.args.budget None) c.in_ok-listing-in-Ok.ensures)
 
-pub returns-in-Ok : goal.returns-in-Ok
-returns-in-Ok c = λ workers told counts.
-    replies_answer (Sample c.args.size workers c.args.budget) told counts counts (listed_by c.in_ok-listing.listing) _
-    (listed told _ _ c.in-Ok.problem c.in_ok-listing.listing (c.in-Ok.ensures workers c.args.budget told) (rw c.sample_limits-limits.ensures at c.in_ok-listing.ensures)) refl
+pub returns-in_ok-listing-in-Ok : goal.returns-in_ok-listing-in-Ok
+returns-in_ok-listing-in-Ok c = λ workers told counts.
+    replies_answer (Sample c.args.size workers c.args.budget) told counts counts (listed_by c.in_ok-listing-in-Ok.listing) _
+    (listed told _ _ c.in-Ok.problem c.in_ok-listing-in-Ok.listing (c.in-Ok.ensures workers c.args.budget told) (rw c.sample_limits-limits.ensures at c.in_ok-listing-in-Ok.ensures)) refl
     (rw (c.sample_name-name.ensures, c.sample_limits-limits.ensures) at c.print.ensures)
 
-pub returns-in_err-listing : goal.returns-in_err-listing
-returns-in_err-listing c = λ workers told counts. replies_memory (Sample c.args.size workers c.args.budget) told counts counts _ refl
+pub returns-in_err-listing-in-Ok : goal.returns-in_err-listing-in-Ok
+returns-in_err-listing-in-Ok c = λ workers told counts. replies_memory (Sample c.args.size workers c.args.budget) told counts counts _ refl
 
 pub returns-in-Err : goal.returns-in-Err
 returns-in-Err c = λ workers told counts.
