@@ -1,15 +1,7 @@
 -- Where tokens are clean, names are right for their kinds: what a tree says of its tokens holds of what it means.
-use Rattle.std.proofs.Common.{◌≡◌, ℕ, zero, suc, ◌-◌, Bool, true, false, cond, ◌&&◌, ◌==◌, List, [], ◌∷◌, ◌++◌, map, length, take, drop, refl, sym, ◌∙◌}
+use Rattle.cnf_grammar.proofs.Common.{◌≡◌, ℕ, zero, suc, ◌-◌, Bool, true, false, cond, ◌&&◌, ◌==◌, List, [], ◌∷◌, ◌++◌, map, length, take, drop, refl, sym, ◌∙◌, list_all, both_true, and_true, Distinct, Number, Punct, right_round, dot, Word, bare_word, quoted_word, Name, FileName, bare_file, quoted_file, Term, variable, number, distinct, compound, Arguments, no_arguments, arguments, Terms, no_terms, then_term, truth, falsity, predicate, Literal, positive, negative, Formula, bracketed, disjunction, Annotations, Selection, clause, include, literals_of, unescaped, unquoted, word_text, variables_of, items_of_term, items_of_arguments, items_of_terms, signed, clause_literal, clause_of, file_text, word_token, file_token, spell_term, spell_arguments, spell_terms, spell_literal, spell_literals, spell_formula, spell_annotations, spell_selection, spell_statement, item_suits, literal_suits, is_clean}
 use Rattle.std.proofs.lemmas.List.Folds.{list_all-append}
-use Rattle.std.specs.List.{list_all}
 use Rattle.mg_word.specs.Facts.{is_name_byte, is_plain_number}
-use Rattle.mg_word.proofs.Members.{both_true, and_true}
-use Rattle.cnf_grammar.specs.Shapes.{Distinct, Number, Punct, right_round, dot}
-use Rattle.cnf_grammar.specs.Trees.{Word, bare_word, quoted_word, Name, FileName, bare_file, quoted_file, Term, variable, number, distinct, compound, Arguments, no_arguments, arguments, Terms, no_terms, then_term, truth, falsity, predicate, Literal, positive, negative, Formula, bracketed, disjunction, Annotations, Selection, clause, include}
-use Rattle.cnf_grammar.specs.Conclude.{literals_of}
-use Rattle.cnf_grammar.specs.Meaning.{unescaped, unquoted, word_text, variables_of, items_of_term, items_of_arguments, items_of_terms, signed, clause_literal, clause_of, file_text}
-use Rattle.cnf_grammar.specs.Spelling.{word_token, file_token, spell_term, spell_arguments, spell_terms, spell_literal, spell_literals, spell_formula, spell_annotations, spell_selection, spell_statement}
-use Rattle.cnf_grammar.specs.Soundness.{item_suits, literal_suits, is_clean}
 
 -- a test that all elements pass, those of each part pass
 all_first : {X : Type 0} (p : X → Bool) (xs ys : List X) → list_all p (xs ++ ys) ≡ true → list_all p xs ≡ true

@@ -1,39 +1,12 @@
 -- The counters of a position count the open brackets of the formula, and are 0 outside formulas.
-use Rattle.std.proofs.Common.{◌≡◌, ◌+◌, true, List, [], ◌∷◌, Option, Some, None, refl, subst, arith}
-use Rattle.cnf_grammar.specs.declared.position.Position.{Position}
-use Rattle.cnf_grammar.specs.Shapes.{Shape}
-use Rattle.cnf_grammar.specs.Table.{step, run_from, run, start}
+use Rattle.cnf_grammar.proofs.Common.{◌≡◌, ◌+◌, true, List, [], ◌∷◌, Option, Some, None, refl, subst, arith, Position, Shape, step, run_from, run, start}
 use Rattle.cnf_grammar.specs.Counters.{in_formula, open_brackets, opened_by, closed_by, IsTidy}
 use Rattle.cnf_grammar.proofs.Edges as edges
 use Rattle.cnf_grammar.proofs.Edges.{Edge, edge}
 
 tidy_on : (p : Position) (s : Shape) (q : Position) → Edge p s q → IsTidy p → IsTidy q
 tidy_on _ _ _ (edges.formula_comes l d bs) h = h.1
-tidy_on _ _ _ (edges.first_bare l d bs text) h = tt
-tidy_on _ _ _ (edges.first_quoted l d bs text) h = tt
-tidy_on _ _ _ (edges.first_truth l d bs) h = tt
-tidy_on _ _ _ (edges.first_falsity l d bs) h = tt
-tidy_on _ _ _ (edges.next_bare l d bs text) h = tt
-tidy_on _ _ _ (edges.next_quoted l d bs text) h = tt
-tidy_on _ _ _ (edges.next_truth l d bs) h = tt
-tidy_on _ _ _ (edges.next_falsity l d bs) h = tt
-tidy_on _ _ _ (edges.atom_bare l d bs text) h = tt
-tidy_on _ _ _ (edges.atom_quoted l d bs text) h = tt
-tidy_on _ _ _ (edges.atom_truth l d bs) h = tt
-tidy_on _ _ _ (edges.atom_falsity l d bs) h = tt
-tidy_on _ _ _ (edges.word_bar l bs) h = refl
-tidy_on _ _ _ (edges.word_notes bs) h = (refl, refl)
-tidy_on _ _ _ (edges.word_ends bs) h = (refl, refl)
-tidy_on _ _ _ (edges.word_formula l bs) h = refl
-tidy_on _ _ _ (edges.term_bar l bs) h = refl
-tidy_on _ _ _ (edges.term_notes bs) h = (refl, refl)
-tidy_on _ _ _ (edges.term_ends bs) h = (refl, refl)
-tidy_on _ _ _ (edges.term_formula l bs) h = refl
-tidy_on _ _ _ (edges.formula_notes d bs) h = (refl, h)
-tidy_on _ _ _ (edges.formula_ends d bs) h = (refl, h)
-tidy_on _ _ _ (edges.clause_ends l d bs) h = (refl, refl)
-tidy_on _ _ _ (edges.include_ends l d bs) h = (refl, refl)
-tidy_on _ _ _ _ h = h
+tidy_on _ _ _ _ h = assumption
 
 -- of the position there, if there is one
 abbrev TidyFrom : Option Position → Type 0
@@ -55,36 +28,7 @@ tidy tokens p e = subst TidyFrom e (tidy_run (Some start) tokens (refl, refl))
 
 counts_on : (p : Position) (s : Shape) (q : Position) → Edge p s q → in_formula p.state ≡ true → in_formula q.state ≡ true → IsTidy p → open_brackets q + closed_by s ≡ open_brackets p + opened_by s
 counts_on _ _ _ (edges.formula_opens l d bs) f g h = omega arith
-counts_on _ _ _ (edges.first_negated l d bs) f g h = omega arith
-counts_on _ _ _ (edges.first_bare l d bs text) f g h = omega arith
-counts_on _ _ _ (edges.first_quoted l d bs text) f g h = omega arith
-counts_on _ _ _ (edges.first_truth l d bs) f g h = omega arith
-counts_on _ _ _ (edges.first_falsity l d bs) f g h = omega arith
-counts_on _ _ _ (edges.next_negated l d bs) f g h = omega arith
-counts_on _ _ _ (edges.next_bare l d bs text) f g h = omega arith
-counts_on _ _ _ (edges.next_quoted l d bs text) f g h = omega arith
-counts_on _ _ _ (edges.next_truth l d bs) f g h = omega arith
-counts_on _ _ _ (edges.next_falsity l d bs) f g h = omega arith
-counts_on _ _ _ (edges.atom_bare l d bs text) f g h = omega arith
-counts_on _ _ _ (edges.atom_quoted l d bs text) f g h = omega arith
-counts_on _ _ _ (edges.atom_truth l d bs) f g h = omega arith
-counts_on _ _ _ (edges.atom_falsity l d bs) f g h = omega arith
-counts_on _ _ _ (edges.arguments_open l d bs) f g h = omega arith
-counts_on _ _ _ (edges.word_comma l d bs) f g h = omega arith
-counts_on _ _ _ (edges.word_closes l d bs) f g h = omega arith
-counts_on _ _ _ (edges.word_bar l bs) f g h = omega arith
-counts_on _ _ _ (edges.word_formula l bs) f g h = omega arith
-counts_on _ _ _ (edges.term_variable l d bs text) f g h = omega arith
-counts_on _ _ _ (edges.term_number l d bs text) f g h = omega arith
-counts_on _ _ _ (edges.term_distinct l d bs text) f g h = omega arith
-counts_on _ _ _ (edges.term_bare l d bs text) f g h = omega arith
-counts_on _ _ _ (edges.term_quoted l d bs text) f g h = omega arith
-counts_on _ _ _ (edges.term_comma l d bs) f g h = omega arith
-counts_on _ _ _ (edges.term_closes l d bs) f g h = omega arith
-counts_on _ _ _ (edges.term_bar l bs) f g h = omega arith
-counts_on _ _ _ (edges.term_formula l bs) f g h = omega arith
-counts_on _ _ _ (edges.formula_closes l d bs) f g h = omega arith
-counts_on _ _ _ _ f g h = absurd cc
+counts_on _ _ _ _ f g h = first_of (cc, omega arith)
 
 pub counts : (tokens : List Shape) (p q : Position) (s : Shape) → run start tokens ≡ Some p → step p s ≡ Some q → in_formula p.state ≡ true → in_formula q.state ≡ true → open_brackets q + closed_by s ≡ open_brackets p + opened_by s
 counts tokens p q s e k f g = counts_on p s q (edge p s q k) f g (tidy tokens p e)

@@ -1,8 +1,6 @@
 -- What a formula's tree adds to an empty draft is the meaning of its literals.
-use Rattle.std.proofs.Common.{◌≡◌, ℕ, suc, pred, Bool, true, false, List, [], ◌∷◌, ◌++◌, map, flat_map, length, refl, sym, ◌∙◌, ap, ap₂, append_assoc, append-nil}
-use Rattle.cnf_grammar.specs.Trees.{Term, variable, number, distinct, compound, Arguments, no_arguments, arguments, Terms, no_terms, then_term, truth, falsity, predicate, Literal, positive, negative, Formula, bracketed, disjunction}
-use Rattle.cnf_grammar.specs.Meaning.{Kind, word_kind, word_text, Symbol, Item, symbol_item, variable_item, count_terms, count_arguments, variables_of_term, variables_of_arguments, variables_of_terms, variables_of_literal, each_once, items_of_term, items_of_arguments, items_of_terms, ClauseLiteral, clause_literal}
-use Rattle.cnf_grammar.specs.Draft.{Draft, empty_draft, with_variable, add_argument, first_argument, close_arguments, finish, draft_of}
+use Rattle.cnf_grammar.proofs.Common.{◌≡◌, ℕ, suc, pred, Bool, true, false, List, [], ◌∷◌, ◌++◌, map, length, refl, sym, ◌∙◌, ap, ap₂, append_assoc, append-nil, Term, variable, number, distinct, compound, Arguments, no_arguments, arguments, Terms, no_terms, then_term, truth, falsity, predicate, Literal, positive, negative, Formula, bracketed, disjunction, Kind, word_kind, word_text, Symbol, Item, symbol_item, variable_item, count_terms, count_arguments, variables_of_term, variables_of_arguments, variables_of_terms, variables_of_literal, each_once, items_of_term, items_of_arguments, items_of_terms, ClauseLiteral, clause_literal, Draft, empty_draft, with_variable, add_argument, first_argument, close_arguments, finish, draft_of}
+use Rattle.std.proofs.Common.{flat_map}
 use Rattle.cnf_grammar.proofs.Variables.{with_variables, with_variables-append, Extends, extends_with, index_final, once_is}
 use Rattle.cnf_grammar.proofs.Collected.{add_term, add_arguments, add_terms, add_literal, add_literals, add_formula}
 

@@ -1,13 +1,5 @@
 -- The rows of the table, a constructor for each: from a position by a token to the next position.
-use Rattle.std.proofs.Common.{◌≡◌, ℕ, zero, suc, Bool, true, false, cond, not, ◌||◌, ◌⊎◌, inl, inr, List, [], ◌∷◌, Option, Some, None, codes, refl, sym, subst, bytes_eq}
-use Rattle.cnf_grammar.specs.declared.brackets.Bracket.{Bracket}
-use Rattle.cnf_grammar.specs.declared.brackets.Bracket.TheVariants.{Round, Square}
-use Rattle.cnf_grammar.specs.declared.state.State.{State}
-use Rattle.cnf_grammar.specs.declared.state.State.TheVariants.{Statement, ClauseWord, NameStart, NameRead, RoleStart, RoleRead, FormulaStart, LiteralStart, AtomStart, WordRead, TermStart, TermRead, FormulaClosed, SourceStart, Source, InfoStart, Info, InfoClosed, ClauseClosed, IncludeWord, FileStart, FileRead, SelectionStart, SelectionOpen, SelectedStart, SelectedRead, SelectionClosed, IncludeClosed}
-use Rattle.cnf_grammar.specs.declared.position.Position.{Position}
-use Rattle.cnf_grammar.specs.Shapes.{Shape, Lower, Upper, Quoted, Distinct, Dollar, Number, Punct, left_round, right_round, left_square, right_square, comma, dot, bar, tilde, is_mark, is_bracket, is_keyword, is_defined, is_lower, is_word, is_name, is_simple_term, is_file_name}
-use Rattle.cnf_grammar.specs.Spelling.{opening, closing}
-use Rattle.cnf_grammar.specs.Table.{or_else, when, step, step_at, start, atom_start, literal_start, after_formula, after_term, any_token, within}
+use Rattle.cnf_grammar.proofs.Common.{◌≡◌, ℕ, zero, suc, Bool, true, false, cond, not, ◌||◌, ◌⊎◌, inl, inr, List, [], ◌∷◌, Option, Some, None, codes, refl, sym, subst, bytes_eq, Bracket, Round, Square, State, Statement, ClauseWord, NameStart, NameRead, RoleStart, RoleRead, FormulaStart, LiteralStart, AtomStart, WordRead, TermStart, TermRead, FormulaClosed, SourceStart, Source, InfoStart, Info, InfoClosed, ClauseClosed, IncludeWord, FileStart, FileRead, SelectionStart, SelectionOpen, SelectedStart, SelectedRead, SelectionClosed, IncludeClosed, Position, Shape, Lower, Upper, Quoted, Distinct, Dollar, Number, Punct, left_round, right_round, left_square, right_square, comma, dot, bar, tilde, is_mark, is_bracket, is_keyword, is_defined, is_lower, is_word, is_name, is_simple_term, is_file_name, opening, closing, or_else, when, step, step_at, start, atom_start, literal_start, after_formula, after_term, any_token, within}
 use Rattle.cnf_grammar.proofs.Accepting.{position, mark_is, keyword_is, defined_is, negated}
 
 pub data Edge : Position → Shape → Position → Type 0 where
@@ -59,7 +51,8 @@ pub data Edge : Position → Shape → Position → Type 0 where
   source_opens : (l d : ℕ) (bs : List Bracket) (b : Bracket) → Edge (position SourceStart l d bs) (opening b) (position Source l d (b ∷ []))
   source_begins : (l d : ℕ) (bs : List Bracket) (s : Shape) → is_bracket s ≡ false → is_mark comma s ≡ false → Edge (position SourceStart l d bs) s (position Source l d [])
   source_inner : (l d : ℕ) (bs : List Bracket) (b : Bracket) → Edge (position Source l d bs) (opening b) (position Source l d (b ∷ bs))
-  source_token : (l d : ℕ) (bs : List Bracket) (s : Shape) → is_bracket s ≡ false → Edge (position Source l d bs) s (position Source l d bs)
+  source_token : (l d : ℕ) (s : Shape) → is_bracket s ≡ false → is_mark comma s ≡ false → Edge (position Source l d []) s (position Source l d [])
+  source_within : (l d : ℕ) (b : Bracket) (bs : List Bracket) (s : Shape) → is_bracket s ≡ false → Edge (position Source l d (b ∷ bs)) s (position Source l d (b ∷ bs))
   source_closes : (l d : ℕ) (bs : List Bracket) (b : Bracket) → Edge (position Source l d (b ∷ bs)) (Punct (closing b)) (position Source l d bs)
   source_comma : (l d : ℕ) → Edge (position Source l d []) (Punct comma) (position InfoStart l d [])
   source_ends : (l d : ℕ) → Edge (position Source l d []) (Punct right_round) (position ClauseClosed l d [])
@@ -219,9 +212,9 @@ edge_at SourceStart l d bs s q e = source_edge _ s q (is_mark comma s) refl l d 
 edge_at Source l d [] s q e =
     let p = position Source l d [] in
     either p s q (is_mark comma s) (position InfoStart l d []) _ (by_mark p (position InfoStart l d []) comma (source_comma l d) s)
-    (λ _ f. either p s q (is_mark right_round s) (position ClauseClosed l d []) _ (by_mark p (position ClauseClosed l d []) right_round (source_ends l d) s)
-    (λ _ g. any_edge p s q Source l d [] (source_inner l d []) (source_token l d [] s) g) f) e
-edge_at Source l d (b ∷ bs) s q e = within_edge _ s q Source l d b bs (source_closes l d bs b) (source_inner l d (b ∷ bs)) (source_token l d (b ∷ bs) s) e
+    (λ apart f. either p s q (is_mark right_round s) (position ClauseClosed l d []) _ (by_mark p (position ClauseClosed l d []) right_round (source_ends l d) s)
+    (λ _ g. any_edge p s q Source l d [] (source_inner l d []) (λ plain. source_token l d s plain apart) g) f) e
+edge_at Source l d (b ∷ bs) s q e = within_edge _ s q Source l d b bs (source_closes l d bs b) (source_inner l d (b ∷ bs)) (source_within l d b bs s) e
 edge_at InfoStart l d bs s q e = one_mark _ s q left_square (position Info l d []) (info_opens l d bs) e
 edge_at Info l d [] s q e =
     let p = position Info l d [] in

@@ -1,8 +1,5 @@
 -- Small token lists, accepted and refused as worked by hand.
-use Rattle.std.proofs.Common.{◌≡◌, Bool, true, false, List, [], ◌∷◌, ◌++◌, Option, Some, None, codes, refl}
-use Rattle.cnf_grammar.specs.declared.position.Position.{Position}
-use Rattle.cnf_grammar.specs.Shapes.{Shape, Lower, Upper, Quoted, Distinct, Dollar, Number, NotEqual, Punct, left_round, right_round, left_square, right_square, comma, dot, bar, tilde}
-use Rattle.cnf_grammar.specs.Table.{run, start, is_end}
+use Rattle.cnf_grammar.proofs.Common.{◌≡◌, Bool, true, false, List, [], ◌∷◌, ◌++◌, Option, Some, None, codes, refl, Position, Shape, Lower, Upper, Quoted, Distinct, Dollar, Number, NotEqual, Punct, left_round, right_round, left_square, right_square, comma, dot, bar, tilde, run, start, is_end}
 
 -- whether a whole file was read, and how it went on otherwise
 data Verdict : Type 0 where

@@ -1,14 +1,8 @@
 -- The table of an item follows conclude items exactly as far as they can be right.
-use Rattle.std.proofs.Common.{◌≡◌, ℕ, zero, suc, ◌<◌, ◌≤◌, ◌^◌, Bool, true, false, ◌&&◌, ◌⊎◌, inl, inr, ◌↔◌, nat_lt, List, [], ◌∷◌, ◌++◌, length, Option, Some, None, is_some, IsSome, codes, refl, sym, ◌∙◌, ap, ap₂, subst, arith}
-use Rattle.std.proofs.lemmas.Bool.Decides.{nat_tests}
+use Rattle.cnf_grammar.proofs.Common.{◌≡◌, ℕ, zero, suc, ◌<◌, ◌≤◌, ◌^◌, Bool, true, false, ◌&&◌, ◌⊎◌, inl, inr, ◌↔◌, nat_lt, List, [], ◌∷◌, ◌++◌, length, Option, Some, None, is_some, IsSome, codes, refl, sym, ◌∙◌, ap, ap₂, subst, arith, nat_tests, digits_value, Shape, Lower, Upper, Quoted, Distinct, Dollar, Number, NotEqual, Punct, left_round, right_round, left_square, right_square, comma, is_keyword, is_mark, gives_conclusions, spell_more_numbers, spell_numbers, item_end, has_word_at, may_follow, are_conclusions_above, values, IsConcludeItem, BeginsConcludeItem, item_start, word_read, item_open, list_open, number_read, number_start, list_closed, item_closed, other_item, names_above, at_item, number_at, item_step, item_run, both_true, and_true}
 use Rattle.std.proofs.lemmas.Fmt.{decimal_is_IsNumeral}
 use Rattle.std.specs.Fmt.{decimal}
-use Rattle.std.specs.Str.Parse.{digits_value}
-use Rattle.cnf_grammar.specs.Shapes.{Shape, Lower, Upper, Quoted, Distinct, Dollar, Number, NotEqual, Punct, left_round, right_round, left_square, right_square, comma, is_keyword, is_mark}
-use Rattle.cnf_grammar.specs.Conclude.{gives_conclusions, spell_more_numbers, spell_numbers, item_end, has_word_at, may_follow, are_conclusions_above, values, IsConcludeItem, BeginsConcludeItem}
 use Rattle.cnf_grammar.specs.declared.item.ItemState.{ItemState}
-use Rattle.cnf_grammar.specs.Items.{item_start, word_read, item_open, list_open, number_read, number_start, list_closed, item_closed, other_item, names_above, at_item, number_at, item_step, item_run}
-use Rattle.mg_word.proofs.Members.{both_true, and_true}
 use Rattle.cnf_grammar.proofs.Accepting.{mark_is, keyword_is}
 
 abbrev is_closed : ItemState → Bool
@@ -72,14 +66,7 @@ module _ (words : List Bool) where
         | inl k ↦ (text, k.1.0, ap (λ u. Number text true ∷ u) k.1.1, and_true (may_follow words last (digits_value 10 text)) (are_conclusions_above words (digits_value 10 text) (values k.1.0)) k.0 k.1.2)
         | inr k ↦ absurd k.1
       ]
-  number_left last (Number text false) tokens h = absurd h
-  number_left last (Lower text) tokens h = absurd h
-  number_left last (Upper text) tokens h = absurd h
-  number_left last (Quoted text) tokens h = absurd h
-  number_left last (Distinct text) tokens h = absurd h
-  number_left last (Dollar text) tokens h = absurd h
-  number_left last NotEqual tokens h = absurd h
-  number_left last (Punct byte) tokens h = absurd h
+  number_left last s tokens h = absurd h
 
   cons_same : (s t : Shape) (xs ys : List Shape) → s ≡ t → xs ≡ ys → s ∷ xs ≡ t ∷ ys
   cons_same s t xs ys e f = ap₂ (λ x u. x ∷ u) e f
@@ -164,14 +151,7 @@ module _ (words : List Bool) where
 
   number_live : (last : ℕ) (s : Shape) → LiveFrom (number_at words last s)
   number_live last (Number text true) = live_at (may_follow words last (digits_value 10 text)) (number_read (digits_value 10 text)) None (λ e. tt) tt
-  number_live last (Number text false) = tt
-  number_live last (Lower text) = tt
-  number_live last (Upper text) = tt
-  number_live last (Quoted text) = tt
-  number_live last (Distinct text) = tt
-  number_live last (Dollar text) = tt
-  number_live last NotEqual = tt
-  number_live last (Punct byte) = tt
+  number_live last s = tt
 
   live_step : (p : ItemState) (s : Shape) → Live p → LiveFrom (item_step words p s)
   live_step item_start s h = absurd h

@@ -1,12 +1,5 @@
 -- Numbers of an item, over plain lists.
-use Rattle.std.proofs.Common.{◌≡◌, ℕ, zero, suc, ◌+◌, ◌-◌, ◌*◌, ◌<◌, ◌≤◌, Bool, true, false, ◌&&◌, nat_lt, List, [], ◌∷◌, length, get_or, drop, None, refl, sym, ◌∙◌, ap, arith}
-use Rattle.std.proofs.Math.Seq.{drop-cons}
-use Rattle.std.proofs.lemmas.Bool.Decides.{nat_tests}
-use Rattle.std.specs.Str.Parse.{digits_value, digits_value_after}
-use Rattle.std.specs.Char.{digit_value}
-use Rattle.cnf_grammar.specs.Conclude.{has_word_at, may_follow}
-use Rattle.cnf_grammar.specs.Shapes.{Number}
-use Rattle.cnf_grammar.specs.Items.{names_above, number_at, at_item, number_read}
+use Rattle.cnf_grammar.proofs.Common.{◌≡◌, ℕ, zero, suc, ◌+◌, ◌-◌, ◌*◌, ◌<◌, ◌≤◌, Bool, true, false, ◌&&◌, nat_lt, List, [], ◌∷◌, length, get_or, drop, None, refl, sym, ◌∙◌, ap, arith, drop-cons, nat_tests, digits_value, digits_value_after, digit_value, has_word_at, may_follow, Number, names_above, number_at, at_item, number_read}
 
 pub word_at : (words : List Bool) (position : ℕ) (d : Bool) → position < length words → has_word_at words position ≡ get_or words position d
 word_at [] position d h = absurd (omega arith)

@@ -1,27 +1,22 @@
 -- The laws that join the table to the grammar.
-use Rattle.std.proofs.Common.{◌≡◌, Bool, true, false, List, [], ◌∷◌, ◌++◌, Option, Some, None, is_some, IsSome, ◌↔◌, refl, sym, ◌∙◌, ap, subst}
-use Rattle.cnf_grammar.specs.declared.position.Position.{Position}
-use Rattle.cnf_grammar.specs.Shapes.{Shape}
+use Rattle.cnf_grammar.proofs.Common.{◌≡◌, Bool, true, false, List, [], ◌∷◌, ◌++◌, Option, Some, None, is_some, IsSome, ◌↔◌, refl, sym, ◌∙◌, ap, subst, Position, Shape, spell, IsFile, IsFront, step, run_from, run, start, is_end}
 use Rattle.cnf_grammar.specs.Trees.{Statement}
-use Rattle.cnf_grammar.specs.Spelling.{spell, IsFile, IsFront}
-use Rattle.cnf_grammar.specs.Table.{step, run_from, run, start, is_end}
 use Rattle.cnf_grammar.specs.Laws.{LeadsToEnd, IsFirstFault, StopsAt}
-use Rattle.cnf_grammar.proofs.Accepting.{accepts-run, run-accepts}
-use Rattle.cnf_grammar.proofs.AcceptedFiles.{accepts-file}
-use Rattle.cnf_grammar.proofs.SpelledFiles.{rest_accepted}
+use Rattle.cnf_grammar.proofs.SpelledFiles.{rest_spelled}
+use Rattle.cnf_grammar.proofs.Whole.{file_leads}
 use Rattle.cnf_grammar.proofs.Completed.{completed}
 
 -- the tokens that trees spell lead from the start to an end
 pub every_file : (file : List Statement) → LeadsToEnd start (spell file)
-every_file file = accepts-run (Some start) (spell file) (accepts-file file 0 0 [])
+every_file file = (start, file_leads file, refl)
 
 -- tokens that lead from the start to an end, some trees spell
 pub only_files : (tokens : List Shape) → LeadsToEnd start tokens → IsFile tokens
-only_files tokens h = rest_accepted (Some start) tokens (run-accepts (Some start) tokens h.0 h.1 h.2)
+only_files tokens h = rest_spelled (Some start) tokens h.0 h.1 h.2
 
 -- from each position some tokens lead to an end
 pub every_position : (p : Position) → (tokens : List Shape) × LeadsToEnd p tokens
-every_position p = let c = completed p in (c.0, accepts-run (Some p) c.0 c.1)
+every_position p = let c = completed p in (c.0, (start, c.1, refl))
 
 -- a run goes over tokens one after another
 pub run-append : (o : Option Position) (before more : List Shape) → run_from o (before ++ more) ≡ run_from (run_from o before) more

@@ -1,10 +1,8 @@
+pub mod Common
 pub mod Accepting
 pub mod Edges
 mod Rests
-mod Accepted
 mod Notes
-mod AcceptedNotes
-mod AcceptedFiles
 mod Spelled
 mod SpelledFiles
 mod Completed
@@ -20,7 +18,7 @@ mod Drafted
 pub mod ItemLaws
 mod ItemNumbers
 pub mod Whole
-mod Counting
+pub mod Counting
 pub mod Once
 pub mod Sound
 pub mod Clean

@@ -1,14 +1,6 @@
 -- Annotations lead on as they are spelled, whatever is kept of their tokens. P says what holds where these tokens were
 -- read, the position is this one, and those tokens are left.
-use Rattle.std.proofs.Common.{◌≡◌, ℕ, Bool, true, false, cond, not, ◌||◌, List, [], ◌∷◌, ◌++◌, Option, Some, None, refl, sym, ◌∙◌, ap, subst, append_assoc, append-nil}
-use Rattle.cnf_grammar.specs.declared.brackets.Bracket.{Bracket}
-use Rattle.cnf_grammar.specs.declared.brackets.Bracket.TheVariants.{Round, Square}
-use Rattle.cnf_grammar.specs.declared.state.State.{State}
-use Rattle.cnf_grammar.specs.declared.position.Position.{Position}
-use Rattle.cnf_grammar.specs.Shapes.{Shape, Punct, left_round, right_round, left_square, right_square, comma, is_mark, is_bracket}
-use Rattle.cnf_grammar.specs.Trees.{Balanced, no_tokens, then_token, then_group, Part, single, group}
-use Rattle.cnf_grammar.specs.Spelling.{opening, closing, spell_balanced, spell_part, spell_parts}
-use Rattle.cnf_grammar.specs.Table.{or_else, when, any_token, within}
+use Rattle.cnf_grammar.proofs.Common.{◌≡◌, ℕ, Bool, true, false, cond, not, ◌||◌, List, [], ◌∷◌, ◌++◌, Option, Some, None, refl, sym, ◌∙◌, ap, subst, append_assoc, append-nil, Bracket, Round, Square, State, Position, Shape, Punct, left_round, right_round, left_square, right_square, comma, is_mark, is_bracket, Balanced, no_tokens, then_token, then_group, Part, single, group, opening, closing, spell_balanced, spell_part, spell_parts, or_else, when, any_token, within}
 use Rattle.cnf_grammar.proofs.Accepting.{position}
 
 -- what is no bracket is none of the four marks

@@ -1,11 +1,6 @@
 -- Each text once: none is lost, none is added, and each number belongs to one of them.
-use Rattle.std.proofs.Common.{◌≡◌, ℕ, zero, suc, ◌<◌, Bool, true, false, true≢false, cond, not, ◌||◌, inl, inr, List, [], ◌∷◌, ◌++◌, length, nat_lt, refl, sym, ◌∙◌, ap, subst, arith, bytes_eq}
+use Rattle.cnf_grammar.proofs.Common.{◌≡◌, ℕ, zero, suc, ◌<◌, Bool, true, false, true≢false, cond, not, ◌||◌, inl, inr, List, [], ◌∷◌, ◌++◌, length, nat_lt, refl, sym, ◌∙◌, ap, subst, arith, bytes_eq, nat_tests, bytes_eq-Decides, never_true, or_true, each_once, index_of, has_text}
 use Rattle.std.specs.Bool.{⊤}
-use Rattle.std.proofs.lemmas.Bool.Decides.{nat_tests}
-use Rattle.std.proofs.lemmas.Slice.Eq.{bytes_eq-Decides}
-use Rattle.mg_word.proofs.Members.{never_true, or_true}
-use Rattle.cnf_grammar.specs.Meaning.{each_once, index_of}
-use Rattle.cnf_grammar.specs.Draft.{has_text}
 use Rattle.cnf_grammar.proofs.Variables.{others}
 
 -- a text that is among the later ones is among all

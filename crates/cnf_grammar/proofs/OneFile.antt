@@ -1,11 +1,7 @@
 -- No two files spell the same tokens.
-use Rattle.std.proofs.Common.{◌≡◌, ℕ, Bool, true, false, List, [], ◌∷◌, ◌++◌, Option, Some, None, codes, bytes_eq, refl, sym, ◌∙◌, ap, ap₂, subst, append_assoc}
+use Rattle.cnf_grammar.proofs.Common.{◌≡◌, ℕ, Bool, true, false, List, [], ◌∷◌, ◌++◌, Option, Some, None, codes, bytes_eq, refl, sym, ◌∙◌, ap, ap₂, subst, append_assoc, Bracket, Round, Square, Shape, Number, Punct, left_round, right_round, left_square, right_square, comma, dot, is_mark, is_bracket, Name, word_name, number_name, FileName, bare_file, quoted_file, Balanced, no_tokens, then_token, then_group, Part, single, group, Annotations, no_annotations, annotations, Selection, every_clause, selected, Formula, clause, include, name_token, file_token, opening, closing, spell_formula, spell_balanced, spell_part, spell_parts, spell_source, spell_items, spell_info, spell_optional_info, spell_annotations, spell_more_names, spell_names, spell_selection, spell_statement, spell}
 use Rattle.std.proofs.Math.Bool.{Bool-set}
-use Rattle.cnf_grammar.specs.declared.brackets.Bracket.{Bracket}
-use Rattle.cnf_grammar.specs.declared.brackets.Bracket.TheVariants.{Round, Square}
-use Rattle.cnf_grammar.specs.Shapes.{Shape, Number, Punct, left_round, right_round, left_square, right_square, comma, dot, is_mark, is_bracket}
-use Rattle.cnf_grammar.specs.Trees.{Name, word_name, number_name, FileName, bare_file, quoted_file, Balanced, no_tokens, then_token, then_group, Part, single, group, Source, Info, Annotations, no_annotations, annotations, Selection, every_clause, selected, Formula, Statement, clause, include}
-use Rattle.cnf_grammar.specs.Spelling.{name_token, file_token, opening, closing, spell_formula, spell_balanced, spell_part, spell_parts, spell_source, spell_items, spell_info, spell_optional_info, spell_annotations, spell_more_names, spell_names, spell_selection, spell_statement, spell}
+use Rattle.cnf_grammar.specs.Trees.{Source, Info, Statement}
 use Rattle.cnf_grammar.proofs.OneTerm.{Ends, ends_comma, ends_round, heads, apart, no_word, one_word, regrouped, both, one_formula}
 
 -- two proofs that a test fails are one
@@ -23,12 +19,6 @@ opening_is_bracket Square = refl
 closing_is_bracket : (bracket : Bracket) → is_bracket (Punct (closing bracket)) ≡ true
 closing_is_bracket Round = refl
 closing_is_bracket Square = refl
-
-one_opening : (a b : Bracket) → opening a ≡ opening b → a ≡ b
-one_opening Round Round e = refl
-one_opening Square Square e = refl
-one_opening Round Square e = absurd (apart left_round (Punct left_round) (Punct left_square) e refl refl)
-one_opening Square Round e = absurd (apart left_square (Punct left_square) (Punct left_round) e refl refl)
 
 one_closing : (a b : Bracket) → Punct (closing a) ≡ Punct (closing b) → a ≡ b
 one_closing Round Round e = refl

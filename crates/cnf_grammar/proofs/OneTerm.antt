@@ -1,8 +1,5 @@
 -- No two formulas spell the same tokens.
-use Rattle.std.proofs.Common.{◌≡◌, ℕ, true, false, List, [], ◌∷◌, ◌++◌, codes, refl, sym, ◌∙◌, ap, ap₂, subst, append_assoc}
-use Rattle.cnf_grammar.specs.Shapes.{Shape, Lower, Upper, Quoted, Distinct, Dollar, Number, Punct, left_round, right_round, comma, bar, tilde, is_mark, is_word}
-use Rattle.cnf_grammar.specs.Trees.{Word, bare_word, quoted_word, Term, variable, number, distinct, compound, Arguments, no_arguments, arguments, Terms, no_terms, then_term, Atom, truth, falsity, predicate, Literal, positive, negative, Formula, bracketed, disjunction}
-use Rattle.cnf_grammar.specs.Spelling.{word_token, spell_term, spell_arguments, spell_terms, spell_atom, spell_literal, spell_literals, spell_formula}
+use Rattle.cnf_grammar.proofs.Common.{◌≡◌, ℕ, true, false, List, [], ◌∷◌, ◌++◌, codes, refl, sym, ◌∙◌, ap, ap₂, subst, append_assoc, Shape, Lower, Upper, Quoted, Distinct, Dollar, Number, Punct, left_round, right_round, comma, bar, tilde, is_mark, is_word, Word, bare_word, quoted_word, Term, variable, number, distinct, compound, Arguments, no_arguments, arguments, Terms, no_terms, then_term, Atom, truth, falsity, predicate, Literal, positive, negative, Formula, bracketed, disjunction, word_token, spell_term, spell_arguments, spell_terms, spell_atom, spell_literal, spell_literals, spell_formula}
 
 -- what may stand behind a term or an atom, and what may stand behind a formula
 pub data Follows : List Shape → Type 0 where

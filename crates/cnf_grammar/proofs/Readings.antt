@@ -1,10 +1,5 @@
 -- What small statements say, as worked by hand.
-use Rattle.std.proofs.Common.{◌≡◌, Bool, true, false, List, [], ◌∷◌, Some, None, codes, refl}
-use Rattle.cnf_grammar.specs.declared.brackets.Bracket.TheVariants.{Round, Square}
-use Rattle.cnf_grammar.specs.Shapes.{Lower, Number, Punct, left_round, right_round, left_square, right_square, comma}
-use Rattle.cnf_grammar.specs.Trees.{bare_word, quoted_word, quoted_file, variable, compound, no_arguments, arguments, no_terms, then_term, truth, falsity, predicate, positive, negative, Formula, bracketed, disjunction, no_tokens, then_token, then_group, single, group, Annotations, annotations, every_clause, include}
-use Rattle.cnf_grammar.specs.Conclude.{conclude_item, are_conclusions_above, words_of, names_literal, conclusions_of}
-use Rattle.cnf_grammar.specs.Meaning.{unquoted, word_kind, symbol_item, variable_item, variables_of, never, signed, clause_literal, meaning, read_include}
+use Rattle.cnf_grammar.proofs.Common.{◌≡◌, Bool, true, false, List, [], ◌∷◌, Some, None, codes, refl, Round, Square, Lower, Number, Punct, left_round, right_round, left_square, right_square, comma, bare_word, quoted_word, quoted_file, variable, compound, no_arguments, arguments, no_terms, then_term, truth, falsity, predicate, positive, negative, Formula, bracketed, disjunction, no_tokens, then_token, then_group, single, group, Annotations, annotations, every_clause, include, conclude_item, are_conclusions_above, words_of, names_literal, conclusions_of, unquoted, word_kind, symbol_item, variable_item, variables_of, never, signed, clause_literal, meaning, read_include}
 
 -- 'it\'s' is it's
 escaped_quote : unquoted (39 ∷ (105 ∷ (116 ∷ (92 ∷ (39 ∷ (115 ∷ (39 ∷ []))))))) ≡ codes "it's"

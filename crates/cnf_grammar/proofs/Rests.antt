@@ -1,11 +1,5 @@
 -- What is left of a file at each position, as trees. E holds of what may stand behind the statement under way.
-use Rattle.std.proofs.Common.{ℕ, zero, suc, List, [], ◌∷◌, ◌++◌, Option, Some, None}
-use Rattle.cnf_grammar.specs.declared.brackets.Bracket.{Bracket}
-use Rattle.cnf_grammar.specs.declared.state.State.{State}
-use Rattle.cnf_grammar.specs.declared.state.State.TheVariants.{Statement, ClauseWord, NameStart, NameRead, RoleStart, RoleRead, FormulaStart, LiteralStart, AtomStart, WordRead, TermStart, TermRead, FormulaClosed, SourceStart, Source, InfoStart, Info, InfoClosed, ClauseClosed, IncludeWord, FileStart, FileRead, SelectionStart, SelectionOpen, SelectedStart, SelectedRead, SelectionClosed, IncludeClosed}
-use Rattle.cnf_grammar.specs.declared.position.Position.{Position}
-use Rattle.cnf_grammar.specs.Shapes.{Shape, Lower, Punct, left_round, right_round, left_square, right_square, comma, dot}
-use Rattle.cnf_grammar.specs.Spelling.{closing, name_token, file_token, spell_term, spell_arguments, spell_terms, spell_atom, spell_literal, spell_literals, spell_formula, spell_balanced, spell_parts, spell_source, spell_items, spell_info, spell_optional_info, spell_annotations, spell_more_names, spell_names, spell_selection}
+use Rattle.cnf_grammar.proofs.Common.{ℕ, zero, suc, List, [], ◌∷◌, ◌++◌, Option, Some, None, Bracket, State, Statement, ClauseWord, NameStart, NameRead, RoleStart, RoleRead, FormulaStart, LiteralStart, AtomStart, WordRead, TermStart, TermRead, FormulaClosed, SourceStart, Source, InfoStart, Info, InfoClosed, ClauseClosed, IncludeWord, FileStart, FileRead, SelectionStart, SelectionOpen, SelectedStart, SelectedRead, SelectionClosed, IncludeClosed, Position, Shape, Lower, Punct, left_round, right_round, left_square, right_square, comma, dot, closing, name_token, file_token, spell_term, spell_arguments, spell_terms, spell_atom, spell_literal, spell_literals, spell_formula, spell_balanced, spell_parts, spell_source, spell_items, spell_info, spell_optional_info, spell_annotations, spell_more_names, spell_names, spell_selection}
 
 -- a mark, and then what K says
 pub data Next (byte : ℕ) (K : List Shape → Type 0) : List Shape → Type 0 where

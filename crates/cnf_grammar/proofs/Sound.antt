@@ -1,17 +1,8 @@
 -- Each clause that a statement says is sound: its literals are whole atoms, and its variables are those that occur.
-use Rattle.std.proofs.Common.{◌≡◌, ℕ, suc, ◌+◌, ◌<◌, Bool, true, false, ◌&&◌, inl, inr, cond, nat_eq, List, [], ◌∷◌, ◌++◌, map, length, refl, sym, ◌∙◌, ap, arith, append_assoc, append-nil, zero-add, suc-add, bytes_eq}
-use Rattle.std.proofs.lemmas.Bool.Decides.{nat_tests}
+use Rattle.cnf_grammar.proofs.Common.{◌≡◌, ℕ, suc, ◌+◌, ◌<◌, Bool, true, false, ◌&&◌, inl, inr, cond, nat_eq, List, [], ◌∷◌, ◌++◌, map, length, refl, sym, ◌∙◌, ap, arith, append_assoc, append-nil, zero-add, suc-add, bytes_eq, nat_tests, bytes_eq-Decides, list_all, flat_map, and_true, or_true, Name, Term, variable, number as numeral, distinct, compound, Arguments, no_arguments, arguments, Terms, no_terms, then_term, truth, falsity, predicate, Literal, positive, negative, Formula, Annotations, literals_of, Item, count_arguments, count_terms, variables_of_term, variables_of_arguments, variables_of_terms, variables_of_literal, variables_of, index_of, items_of_term, items_of_arguments, items_of_terms, clause_literal, clause_of, has_text, are_terms, is_whole, item_variables, literal_variables, IsSound}
 use Rattle.std.proofs.lemmas.Grind.{flat_map-append}
 use Rattle.std.proofs.lemmas.List.{map-append}
-use Rattle.std.proofs.lemmas.Slice.Eq.{bytes_eq-Decides}
-use Rattle.std.specs.List.{list_all, flat_map}
-use Rattle.mg_word.proofs.Members.{and_true, or_true}
 use Rattle.mg_word.specs.Forms.{is_among}
-use Rattle.cnf_grammar.specs.Trees.{Name, Term, variable, number as numeral, distinct, compound, Arguments, no_arguments, arguments, Terms, no_terms, then_term, truth, falsity, predicate, Literal, positive, negative, Formula, Annotations}
-use Rattle.cnf_grammar.specs.Conclude.{literals_of}
-use Rattle.cnf_grammar.specs.Meaning.{Item, count_arguments, count_terms, variables_of_term, variables_of_arguments, variables_of_terms, variables_of_literal, variables_of, index_of, items_of_term, items_of_arguments, items_of_terms, clause_literal, clause_of}
-use Rattle.cnf_grammar.specs.Draft.{has_text}
-use Rattle.cnf_grammar.specs.Soundness.{are_terms, is_whole, item_variables, literal_variables, IsSound}
 use Rattle.cnf_grammar.proofs.Once.{Covers, covers_first, covers_second, once_covers, once_numbered, number_known}
 
 -- terms one after another

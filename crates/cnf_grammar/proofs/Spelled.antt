@@ -1,12 +1,5 @@
--- What the table accepts from a position, trees at that position spell: one token more.
-use Rattle.std.proofs.Common.{◌≡◌, ℕ, suc, Bool, true, false, List, [], ◌∷◌, ◌++◌, Option, Some, None, refl, sym, ◌∙◌, ap, subst, append_assoc}
-use Rattle.cnf_grammar.specs.declared.brackets.Bracket.{Bracket}
-use Rattle.cnf_grammar.specs.declared.position.Position.{Position}
-use Rattle.cnf_grammar.specs.Shapes.{Shape, Punct, left_round, right_round, left_square, right_square, comma, bar, tilde, is_mark, is_bracket}
-use Rattle.cnf_grammar.specs.Trees.{Word, Name, compound, arguments, then_term, predicate, positive, negative, bracketed, disjunction, then_token, then_group, group, annotations, selected}
-use Rattle.cnf_grammar.specs.Spelling.{word_token, name_token, opening, closing, spell_term, spell_terms, spell_literal, spell_literals, spell_formula, spell_balanced, spell_part, spell_parts, spell_source, spell_items, spell_optional_info, spell_names}
-use Rattle.cnf_grammar.specs.Table.{or_else, when}
-use Rattle.cnf_grammar.proofs.Accepting.{chosen-when, mark_is}
+-- What trees at a position spell: one token more.
+use Rattle.cnf_grammar.proofs.Common.{◌≡◌, ℕ, suc, Bool, true, false, List, [], ◌∷◌, ◌++◌, Option, Some, None, refl, sym, ◌∙◌, ap, subst, append_assoc, Bracket, Position, Shape, Punct, left_round, right_round, left_square, right_square, comma, bar, tilde, is_mark, is_bracket, Word, Name, compound, arguments, then_term, predicate, positive, negative, bracketed, disjunction, then_token, then_group, group, annotations, selected, word_token, name_token, opening, closing, spell_term, spell_terms, spell_literal, spell_literals, spell_formula, spell_balanced, spell_part, spell_parts, spell_source, spell_items, spell_optional_info, spell_names, or_else, when}
 use Rattle.cnf_grammar.proofs.Rests.{Next, next, One, one, Then, so, Inside, AfterSource, SourceParts, SourceStarts, InfoStarts, InfoItems, InfoParts, AfterFormula, FormulaStarts, AfterLiteral, LiteralStarts, AtomStarts, AfterTerm, AfterWord, TermStarts, AfterSelected, SelectedStarts, ListStarts, AfterFile, RestFrom}
 
 -- what is said of an equal list
@@ -18,26 +11,6 @@ pub at_token : (K : List Shape → Type 0) (s t : Shape) (tokens : List Shape) �
 at_token K s t tokens e k = subst (λ x. K (x ∷ tokens)) (sym e) k
 
 module _ (E : List Shape → Type 0) where
-  pub none : (tokens : List Shape) → RestFrom E None tokens → ⊥
-  none tokens h = h
-
-  -- a wanted mark, and a wanted token of a kind
-  pub wanted : (byte : ℕ) (s : Shape) (q : Position) (tokens : List Shape) → RestFrom E (when (is_mark byte s) q) tokens → Next byte (RestFrom E (Some q)) (s ∷ tokens)
-  wanted byte s q tokens h =
-      let c = chosen-when (λ o. RestFrom E o tokens) (none tokens) (is_mark byte s) q h in
-      at_token (Next byte (RestFrom E (Some q))) s (Punct byte) tokens (mark_is byte s c.0) (next c.1)
-
-  pub wanted_one : {X : Type 0} (token : X → Shape) (test : Shape → Bool) → ((s : Shape) → test s ≡ true → (x : X) × (s ≡ token x)) → (s : Shape) (q : Position) (tokens : List Shape) → RestFrom E (when (test s) q) tokens → One token (RestFrom E (Some q)) (s ∷ tokens)
-  wanted_one token test is s q tokens h =
-      let c = chosen-when (λ o. RestFrom E o tokens) (none tokens) (test s) q h in
-      let x = is s c.0 in
-      at_token (One token (RestFrom E (Some q))) s (token x.0) tokens x.1 (one x.0 c.1)
-
-  -- of two marks one comes
-  pub either : {A : Type 0} (test : Bool) (q : Position) (o : Option Position) (tokens : List Shape) → (test ≡ true → RestFrom E (Some q) tokens → A) → (test ≡ false → RestFrom E o tokens → A) → RestFrom E (or_else test q o) tokens → A
-  either true q o tokens f g h = f refl h
-  either false q o tokens f g h = g refl h
-
   -- formulas
   pub formula_in_brackets : (level : ℕ) (tokens : List Shape) → FormulaStarts E (suc level) tokens → FormulaStarts E level (Punct left_round ∷ tokens)
   formula_in_brackets level _ (so formula (next {rest} k)) =
@@ -119,3 +92,8 @@ inner_group K inner bracket outer _ (so inside (next (so more {rest} k))) =
 
 pub inner_token : (K : List Shape → Type 0) (s : Shape) → is_bracket s ≡ false → (bracket : Bracket) (outer : List Bracket) (tokens : List Shape) → Inside (bracket ∷ outer) K tokens → Inside (bracket ∷ outer) K (s ∷ tokens)
 inner_token K s plain bracket outer _ (so inside k) = so (then_token s plain inside) k
+
+-- a bracket that opens
+pub group_begun : (K : List Shape → Type 0) (bracket : Bracket) (outer : List Bracket) (tokens : List Shape) → Inside (bracket ∷ outer) (Then spell_parts K) tokens → Inside outer (Then spell_parts K) (opening bracket ∷ tokens)
+group_begun K bracket [] tokens k = parts_more K (opening bracket ∷ tokens) (part_group (Then spell_parts K) bracket tokens k)
+group_begun K bracket (around ∷ outer) tokens k = inner_group (Then spell_parts K) bracket around outer tokens k

@@ -1,9 +1,6 @@
 -- A quoted form without its quotes and escapes is what its parts stand for.
-use Rattle.std.proofs.Common.{◌≡◌, ℕ, ◌-◌, true, false, cond, ◌==◌, List, [], ◌∷◌, ◌++◌, length, take, refl, ap, ◌∙◌, arith, length-append}
-use Rattle.std.proofs.Math.Seq.{take-append_seam}
-use Rattle.mg_word.proofs.Members.{both_false}
+use Rattle.cnf_grammar.proofs.Common.{◌≡◌, ℕ, ◌-◌, true, false, cond, ◌==◌, List, [], ◌∷◌, ◌++◌, length, take, refl, ap, ◌∙◌, arith, length-append, take-append_seam, both_false, unescaped, unquoted}
 use Rattle.tptp_lexer.specs.Forms.{Item, plain, escaped, bytes_of, meant_by, AreItems}
-use Rattle.cnf_grammar.specs.Meaning.{unescaped, unquoted}
 
 unescaped-items : (quote : ℕ) (items : List Item) → AreItems quote items → unescaped false (bytes_of items) ≡ meant_by items
 unescaped-items quote [] good = refl

@@ -1,8 +1,5 @@
 -- Variables by first occurrence: adding them one by one, and taking each once.
-use Rattle.std.proofs.Common.{◌≡◌, ℕ, suc, Bool, true, false, cond, not, ◌||◌, List, [], ◌∷◌, ◌++◌, filter, refl, sym, ◌∙◌, ap, subst, append_assoc, append-nil, bytes_eq}
-use Rattle.std.proofs.lemmas.Slice.Eq.{bytes_eq-Decides}
-use Rattle.cnf_grammar.specs.Meaning.{each_once, index_of}
-use Rattle.cnf_grammar.specs.Draft.{has_text, with_variable}
+use Rattle.cnf_grammar.proofs.Common.{◌≡◌, ℕ, suc, Bool, true, false, cond, not, ◌||◌, List, [], ◌∷◌, ◌++◌, filter, refl, sym, ◌∙◌, ap, subst, append_assoc, append-nil, bytes_eq, bytes_eq-Decides, each_once, index_of, has_text, with_variable}
 
 -- the variables with these, in order
 abbrev pub with_variables : List (List ℕ) → List (List ℕ) → List (List ℕ)

@@ -1,5 +1,8 @@
 -- What a statement says: names, literals with their symbols and variables, conclusions, files.
 use Rattle.std.specs.Prelude.{ℕ, suc, ◌-◌, Bool, true, false, cond, not, ◌==◌, List, [], ◌∷◌, ◌++◌, Option, Some, None, map, filter, flat_map, length, take, drop, bytes_eq}
+pub use Rattle.mg_word.specs.declared.symbol.Kind.{Kind}
+pub use Rattle.mg_word.specs.declared.symbol.Kind.TheVariants.{Word as word_kind, Integer as integer_kind, Distinct as distinct_kind}
+pub use Rattle.mg_word.specs.declared.clause.Name.{Name as Named}
 use Rattle.cnf_grammar.specs.Trees.{Word, bare_word, quoted_word, Name, word_name, number_name, FileName, bare_file, quoted_file, Term, variable, number, distinct, compound, Arguments, no_arguments, arguments, Terms, no_terms, then_term, Atom, truth, falsity, predicate, Literal, positive, negative, Formula, Annotations, Selection, every_clause, selected, Statement, clause, include}
 use Rattle.cnf_grammar.specs.Conclude.{literals_of, conclusions_of}
 
@@ -13,21 +16,10 @@ unescaped false (byte ∷ bytes) = cond (byte == 92) (unescaped true bytes) (byt
 abbrev pub unquoted : List ℕ → List ℕ
 unquoted text = unescaped false (take (length text - 2) (drop 1 text))
 
--- what a symbol or a name of a clause is
-pub data Kind : Type 0 where
-  word_kind : Kind
-  integer_kind : Kind
-  distinct_kind : Kind
-
 -- the text of a word: bare and in quotes it is the same
 abbrev pub word_text : Word → List ℕ
 word_text (bare_word text) = text
 word_text (quoted_word text) = unquoted text
-
--- a name, by kind and text
-pub record Named : Type 0 where
-  pub kind : Kind
-  pub text : List ℕ
 
 -- the name of a clause
 abbrev pub named : Name → Named

@@ -1,14 +1,13 @@
 //! An item of an info, followed as long as it can still be right.
 
-ghost use Rattle.std.specs.Prelude.{◌≡◌, ◌<◌, ◌≤◌, ◌^◌, [], Some, None, length, MatchOption};
-ghost use Rattle.std.specs.Str.Parse.{digits_value};
-ghost use Rattle.std.specs.Char.{digit_value};
+ghost use Rattle.std.specs.Prelude.{◌≡◌, ◌<◌, ◌^◌, [], Some, None, length};
 ghost use Rattle.cnf_grammar.specs.Seen.{seen};
 ghost use Rattle.cnf_grammar.specs.Shapes.{Number, shape_of};
 ghost use Rattle.cnf_grammar.specs.Conclude.{has_word_at, may_follow};
 ghost use Rattle.cnf_grammar.specs.Items.{item_start, word_read, list_open, number_read, names_above, at_item, number_at, item_step};
 
 use crate::Lexeme;
+use ascii_text::number_up_to;
 use tptp_lexer::TokenKind;
 
 /// Where a reader stands in an item of an info.
@@ -159,24 +158,4 @@ fn has_word_at(words: &[bool], position: usize) -> bool
     ensures { result ≡ has_word_at words.now position }
 {
     position < words.len() && words[position]
-}
-
-fn digit(byte: u8) -> u32
-    ensures { result ≡ digit_value byte }
-{
-    char::from(byte).to_digit(36).unwrap_or(36)
-}
-
-// The number that the digits write, if it is at most this one.
-fn number_up_to(text: &[u8], most: u32) -> Option<u32>
-    ensures { MatchOption result (most < digits_value 10 text.now) (λ number. (number ≡ digits_value 10 text.now) × (number ≤ most)) }
-{
-    let mut number: u64 = 0;
-    for byte in text {
-        number = number * 10 + digit(*byte) as u64;
-        if number > most as u64 {
-            return None;
-        }
-    }
-    Some(number as u32)
 }

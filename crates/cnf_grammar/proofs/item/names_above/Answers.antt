@@ -1,6 +1,5 @@
 -- A literal that was passed over has no word, or is not above the last number.
-use Rattle.std.proofs.Common.{◌≡◌, ◌<◌, ◌≤◌, false, length, get_or, arith}
-use Rattle.cnf_grammar.specs.Items.{names_above}
+use Rattle.cnf_grammar.proofs.Common.{◌≡◌, ◌<◌, ◌≤◌, false, length, get_or, arith, names_above}
 use Rattle.cnf_grammar.proofs.ItemNumbers.{step_over}
 use Rattle.cnf_grammar.proofs.item.names_above.Goals as goal
 use Rattle.cnf_grammar.proofs.item.names_above.Goals.{else-last-position-via-then-last-position+else-word, else-last-position-via-else-last-position}

@@ -1,6 +1,5 @@
 -- No number so far was found, so those ahead decide.
-use Rattle.std.proofs.Common.{◌≡◌, ◌-◌, drop}
-use Rattle.cnf_grammar.specs.Items.{names_above}
+use Rattle.cnf_grammar.proofs.Common.{◌≡◌, ◌-◌, drop, names_above}
 use Rattle.cnf_grammar.proofs.item.names_above.Given as goal
 
 abbrev pub invariant-loop-position : goal.invariant-loop-position
