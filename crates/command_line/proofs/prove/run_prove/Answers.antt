@@ -1,4 +1,5 @@
 use Rattle.std.proofs.Common.{refl}
+use Rattle.std.proofs.lemmas.Result.{err_from_is_err_and}
 use Rattle.command_words.specs.Asking.{Prove}
 use Rattle.command_words.specs.Requests.{search_seen}
 use Rattle.command_line.specs.Outcomes.{proved_by}
@@ -21,7 +22,7 @@ returns-in_ok-outcome-in-Ok-clause-replies g c =
     (rw (c.szs_name-name.ensures, c.search_limits-limits.ensures) at c.print.ensures)
 
 pub returns-in_err-outcome-in-Ok-clause-replies : goal.returns-in_err-outcome-in-Ok-clause-replies
-returns-in_err-outcome-in-Ok-clause-replies g c = replies_memory (Prove (search_seen c.args.search.now)) _ _ _ _ c.in-Ok.ensures.counted
+returns-in_err-outcome-in-Ok-clause-replies g c = let failed = err_from_is_err_and c.from_residual.result c.from_residual.ensures.1 in rw failed.1 (replies_memory (Prove (search_seen c.args.search.now)) _ _ _ _ c.in-Ok.ensures.counted)
 
 pub returns-in-Err-clause-replies : goal.returns-in-Err-clause-replies
 returns-in-Err-clause-replies g c =
