@@ -16,16 +16,15 @@ use Rattle.mg_meaning.proofs.Lists.{Among, contains_from}
 use Rattle.mg_meaning.proofs.MinimalLists.{lists_from, lists_same}
 use Rattle.tree_board.specs.Alone.{Finishes, FitsPlain, IsAlone, IsLeft}
 use Rattle.tree_board.specs.Boards.{Board, count, is_closed, opening}
-use Rattle.tree_board.specs.Effects.{effect, replay_from}
+use Rattle.tree_board.specs.Effects.{replay_from}
 use Rattle.tree_board.specs.Events.{insts_in}
 use Rattle.tree_board.specs.Facts.{IsBoard}
-use Rattle.tree_board.specs.Lawful.{AreLawful, IsReplay}
+use Rattle.tree_board.specs.Lawful.{IsReplay}
 use Rattle.tree_board.specs.Leaves.{ListsMinimalFound}
 use Rattle.tree_board.specs.Searches.{Search, board_of, setting_of}
 use Rattle.tree_board.specs.Settings.{Setting}
 use Rattle.tree_board.specs.Standing.{model_of, some_heavy, some_open, standing_by, state_of}
 use Rattle.tree_board.specs.WorkerLaws.{IsEnd}
-use Rattle.tree_board.specs.declared.event.Event.{Event}
 use Rattle.tree_board.specs.declared.mode.BoardState.{BoardState}
 use Rattle.tree_board.specs.declared.mode.BoardState.TheVariants.{Blocked, Closed, Complete, Model, Running}
 use Rattle.tree_board.specs.declared.mode.Limit.{Limit}
