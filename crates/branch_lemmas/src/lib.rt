@@ -9,6 +9,3 @@ mod lemma;
 pub use folding::{closure_lemma, fold, leaf_lemma};
 pub use index::{LemmaIndex, MOST_LEMMAS, MOST_LITERALS};
 pub use lemma::Lemma;
-
-#[cfg(test)]
-mod tests;

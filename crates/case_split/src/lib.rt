@@ -9,6 +9,3 @@ mod splitting;
 pub use child::{Child, Closure};
 pub use laws::{children_go_by_index, closed_as_in_plain_tree};
 pub use splitting::{child_barred, children};
-
-#[cfg(test)]
-mod tests;

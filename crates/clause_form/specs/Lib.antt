@@ -4,4 +4,3 @@ pub mod Forming
 pub mod Free
 pub mod Lines
 pub mod Renumbering
-pub mod Samples

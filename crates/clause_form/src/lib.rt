@@ -17,6 +17,3 @@ pub use line::form_text;
 pub use problem::forms_of;
 pub use satisfying::satisfies;
 pub use variables::free_variable;
-
-#[cfg(test)]
-mod tests;

@@ -10,8 +10,6 @@ mod lexeme;
 mod position;
 mod state;
 mod statements;
-#[cfg(test)]
-mod tests;
 
 pub use brackets::{Bracket, Brackets};
 pub use item::ItemState;

@@ -16,8 +16,6 @@ mod part;
 mod pending;
 mod reading;
 mod selections;
-#[cfg(test)]
-mod tests;
 mod text;
 
 pub use fault::{ReadFault, ReadKind};

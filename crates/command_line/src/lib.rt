@@ -6,19 +6,13 @@ mod finding;
 mod forms;
 mod laws;
 mod models;
-#[cfg(test)]
-mod models_tests;
 mod printout;
 mod problem;
 mod prove;
-#[cfg(test)]
-mod prove_tests;
 mod putting;
 mod refusal;
 mod sample;
 mod status;
-#[cfg(test)]
-mod tests;
 mod top;
 mod wanted;
 

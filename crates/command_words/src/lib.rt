@@ -9,6 +9,3 @@ mod values;
 
 pub use laws::one_request;
 pub use request::{Request, Search, request_of};
-
-#[cfg(test)]
-mod tests;

@@ -8,8 +8,6 @@ mod laws;
 mod level;
 mod node;
 mod order;
-#[cfg(test)]
-mod tests;
 
 pub use heap::LevelHeap;
 pub use keys::Keys;

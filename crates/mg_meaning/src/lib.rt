@@ -26,6 +26,3 @@ pub use lits::{copy_lits, holds_lit, is_part_of};
 pub use matching::{PartialSubst, form_matches};
 pub use minimal::is_minimal;
 pub use satisfying::{clashes, is_satisfying};
-
-#[cfg(test)]
-mod tests;

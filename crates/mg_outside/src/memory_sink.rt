@@ -110,34 +110,3 @@ impl Sink for MemorySink {
         PutAnswer::Done
     }
 }
-
-#[cfg(test)]
-mod tests {
-    use super::*;
-    use std::test::Fail;
-
-    #[test]
-    fn takes_by_the_rule(rt: HostRuntime) -> Result<(), Fail> {
-        let alloc = rt.alloc();
-        let failing = [
-            FailAt { call: 2, taken: 1 },
-            FailAt { call: 2, taken: 3 },
-            FailAt { call: 4, taken: 9 },
-        ];
-        let mut sink = MemorySink::new(alloc, 10, failing.to_vec(alloc)?)?;
-        // The piece, the answer and all that is held then.
-        for (piece, answer, held) in [
-            ("abc", PutAnswer::Done, "abc"),
-            ("def", PutAnswer::Failed, "abcd"),
-            ("ef", PutAnswer::Done, "abcdef"),
-            ("gh", PutAnswer::Failed, "abcdefgh"),
-            ("ijk", PutAnswer::Failed, "abcdefghij"),
-            ("", PutAnswer::Done, "abcdefghij"),
-            ("z", PutAnswer::Failed, "abcdefghij"),
-        ] {
-            assert_eq!(rt; sink.put(piece.as_bytes()), answer, "at {piece}");
-            assert!(rt; sink.held() == held.as_bytes(), "after {piece}");
-        }
-        Ok(())
-    }
-}

@@ -1,6 +1,5 @@
 pub mod Facts
 pub mod Forms
-pub mod Held
 pub mod OneSpelling
 pub mod OrderLaws
 pub mod Orders

@@ -15,18 +15,12 @@ use std::cmp::Ordering;
 use std::marker::Model;
 
 /// The most symbols of a word that takes no memory of its own.
-const INLINE: usize = 6;
+const INLINE: usize = 4;
 
 /// The symbols of a ground term or atom, in prefix order, by their numbers.
 #[derive(Debug, Drop)]
 pub struct Word {
-    held: Held,
-}
-
-#[derive(Debug, Drop)]
-enum Held {
-    Short(SmallVec<u32, INLINE>),
-    Long(Vec<u32>),
+    symbols: SmallVec<u32, INLINE>,
 }
 
 impl Model for Word {
@@ -34,14 +28,12 @@ impl Model for Word {
 
     ghost Value = { List ℕ };
 
-    ghost use Rattle.mg_word.specs.Held.{symbols_of};
-
-    ghost view = { λ word. symbols_of word.held };
+    ghost view = { λ word. word.symbols.items };
 }
 
 // So few symbols fit inline, and take no memory.
 fn inline(alloc: Global, symbols: &[u32]) -> SmallVec<u32, INLINE>
-    requires { length symbols.now ≤ 6 }
+    requires { length symbols.now ≤ 4 }
     ensures { result.items ≡ symbols.now }
 {
     match SmallVec::from_slice(alloc, symbols) {
@@ -56,13 +48,11 @@ impl Word {
         ensures { result ≡ symbols.items }
     {
         if symbols.len() <= INLINE {
-            let short = inline(*symbols.allocator(), symbols.as_slice());
-            return Word {
-                held: Held::Short(short),
-            };
+            let symbols = inline(*symbols.allocator(), symbols.as_slice());
+            return Word { symbols };
         }
         Word {
-            held: Held::Long(symbols),
+            symbols: SmallVec::from_vec(symbols),
         }
     }
 
@@ -70,30 +60,15 @@ impl Word {
     pub fn as_slice(&self) -> &[u32]
         ensures { result.now ≡ self.now }
     {
-        match &self.held {
-            Held::Short(symbols) => symbols.as_slice(),
-            Held::Long(symbols) => symbols.as_slice(),
-        }
+        self.symbols.as_slice()
     }
 
     /// An equal word.
     pub fn copy(&self) -> Result<Word, NoMemory>
         ensures { IfOk result (λ word. word ≡ self.now) }
     {
-        match &self.held {
-            Held::Short(symbols) => {
-                let held = SmallVec::from_slice(*symbols.allocator(), symbols.as_slice())?;
-                Ok(Word {
-                    held: Held::Short(held),
-                })
-            }
-            Held::Long(symbols) => {
-                let held = Vec::from_slice(*symbols.allocator(), symbols.as_slice())?;
-                Ok(Word {
-                    held: Held::Long(held),
-                })
-            }
-        }
+        let symbols = SmallVec::from_slice(*self.symbols.allocator(), self.symbols.as_slice())?;
+        Ok(Word { symbols })
     }
 }
 
@@ -124,7 +99,10 @@ impl Ord for Word {
     fn cmp(&self, other: &Word) -> Ordering {
         let these = self.as_slice();
         let those = other.as_slice();
-        these.len().cmp(&those.len()).then(these.cmp(those))
+        match these.len().cmp(&those.len()) {
+            Ordering::Equal => these.cmp(those),
+            unequal => unequal,
+        }
     }
 }
 

@@ -5,7 +5,6 @@ pub mod Held
 pub mod Leveling
 pub mod MatchedBy
 pub mod Rightly
-pub mod Sampled
 pub mod SignsOf
 pub mod StacksMoves
 pub mod TermsGrow

@@ -5,6 +5,5 @@ pub mod Laws
 pub mod Levels
 pub mod Matched
 pub mod MatchedSeen
-pub mod Samples
 pub mod Signs
 pub mod Steps

@@ -12,6 +12,3 @@ pub use branch::Branch;
 pub use laws::{branches_grow_by_pushes, found_is_unique};
 pub use ramified_match::Mark;
 pub use step::{Found, Step, look, make_step};
-
-#[cfg(test)]
-mod tests;

@@ -10,6 +10,3 @@ mod names;
 pub use fault::SampleFault;
 pub use limits::{LEAST_SIZE, MOST_SIZE};
 pub use making::sample;
-
-#[cfg(test)]
-mod tests;

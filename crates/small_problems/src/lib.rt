@@ -65,6 +65,3 @@ pub fn problem_of(alloc: Global, text: &str) -> Result<Problem, NoProblem>
         Err(fault) => Err(NoProblem::Unformed(fault)),
     }
 }
-
-#[cfg(test)]
-mod tests;

@@ -10,8 +10,6 @@ mod names;
 mod prove;
 mod report;
 mod sets;
-#[cfg(test)]
-mod tests;
 
 pub use check::{CheckAnswer, report_check};
 pub use faults::{FaultReport, Trouble, report_fault};

@@ -9,8 +9,6 @@ mod numbers;
 mod piece;
 mod quotes;
 mod spot;
-#[cfg(test)]
-mod tests;
 mod token;
 
 pub use cursor::{Cursor, next_token};

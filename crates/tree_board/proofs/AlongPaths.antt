@@ -30,6 +30,7 @@ use Rattle.tree_board.specs.Cells.{parent_of}
 use Rattle.tree_board.specs.Effects.{effect, settled}
 use Rattle.tree_board.specs.Events.{node_of}
 use Rattle.tree_board.specs.Facts.{IsBoard, IsChildOf, IsPath, IsSplit}
+use Rattle.tree_board.specs.declared.tally.Tally.{Tally}
 use Rattle.tree_board.specs.Keeping.{IsKeeping}
 use Rattle.tree_board.specs.Lawful.{IsLawful}
 use Rattle.tree_board.specs.NodeStates.{NodeState, Open, Split, is_shut}
@@ -319,17 +320,17 @@ taken xs ys zs count is size =
     let left : length xs - count ≡ length ys = omega (arith, sizes, size) in
     ap₂ (λ n list. take n list) left is ∙ take_at ys zs (length ys) refl
 
-module _ (search value : Search) (same : search ≡ value) (cells seen_cells : List Cell) (closures : List Closure) (lemmas : List Pair) (lemma_nodes : List ℕ) (extends : ℕ) (keeping : IsKeeping search cells closures lemmas lemma_nodes extends)
+module _ (search value : Search) (same : search ≡ value) (cells seen_cells : List Cell) (closures : List Closure) (lemmas : List Pair) (lemma_nodes : List ℕ) (tally : Tally) (keeping : IsKeeping search cells closures lemmas lemma_nodes tally)
     (seen_journal : List Event) (cells_are : seen_cells ≡ cells) (journal_is : seen_journal ≡ search.journal) where
-  kept_now : IsKeeping value cells closures lemmas lemma_nodes extends
-  kept_now = subst (λ one. IsKeeping one cells closures lemmas lemma_nodes extends) same keeping
+  kept_now : IsKeeping value cells closures lemmas lemma_nodes tally
+  kept_now = subst (λ one. IsKeeping one cells closures lemmas lemma_nodes tally) same keeping
 
   facts_now : IsBoard (setting_of value) (board_of value)
-  facts_now = board_kept value cells closures lemmas lemma_nodes extends kept_now
+  facts_now = board_kept value cells closures lemmas lemma_nodes tally kept_now
 
   pub seen_there : (number : ℕ) → number < length (board_of value).nodes → number < length seen_cells
   seen_there number small =
-      let sizes = nodes_kept value cells closures lemmas lemma_nodes extends kept_now in
+      let sizes = nodes_kept value cells closures lemmas lemma_nodes tally kept_now in
       let shown_size = ap length cells_are in
       omega (arith, small, sizes, shown_size)
 
@@ -339,18 +340,18 @@ module _ (search value : Search) (same : search ≡ value) (cells seen_cells : L
   -- the parent that a cell tells
   seen_parent : (number : ℕ) (here : Node) → slice_get (board_of value).nodes number ≡ Some here → (parent : ℕ) → option_map (λ (cell : Cell). cell.parent) (slice_get seen_cells number) ≡ Some parent → parent_of here.path ≡ parent
   seen_parent number here at parent told =
-      same_some (parent_of here.path) parent (sym (parent_is value cells closures lemmas lemma_nodes extends kept_now number here at) ∙ (ap (λ (cs : List Cell). option_map (λ (cell : Cell). cell.parent) (slice_get cs number)) (sym cells_are) ∙ told))
+      same_some (parent_of here.path) parent (sym (parent_is value cells closures lemmas lemma_nodes tally kept_now number here at) ∙ (ap (λ (cs : List Cell). option_map (λ (cell : Cell). cell.parent) (slice_get cs number)) (sym cells_are) ∙ told))
 
   seen_earlier : (parent number : ℕ) → earlier_in seen_cells seen_journal parent number ≡ bars_at (board_of value).nodes parent number
   seen_earlier parent number =
       ap₂ (λ (cs : List Cell) (js : List Event). earlier_in cs js parent number) cells_are (journal_is ∙ ap (λ (one : Search). one.journal) same)
-      ∙ ap₂ (λ (i : Option Inst) (f : Option ℕ). cases_before i f number) (instance_kept value cells closures lemmas lemma_nodes extends kept_now parent) (first_child_kept value cells closures lemmas lemma_nodes extends kept_now parent)
+      ∙ ap₂ (λ (i : Option Inst) (f : Option ℕ). cases_before i f number) (instance_kept value cells closures lemmas lemma_nodes tally kept_now parent) (first_child_kept value cells closures lemmas lemma_nodes tally kept_now parent)
 
   seen_literal : (number : ℕ) (here : Node) → slice_get (board_of value).nodes number ≡ Some here → 0 < number → (lit : Lit) → literal_by (board_of value).nodes number (parent_of here.path) ≡ Some lit → literal_in seen_cells seen_journal number ≡ Some lit
   seen_literal number here at high lit gives =
       ap₂ (λ (cs : List Cell) (js : List Event). literal_in cs js number) cells_are (journal_is ∙ ap (λ (one : Search). one.journal) same)
       ∙ (cond-false (nat_eq number 0) None (option_and_then (λ (cell : Cell). literal_from cells value.journal number cell.parent) (slice_get cells number)) (ne_eqb number 0 (λ e. let bad : ⊥ = omega (arith, e, high) in bad))
-      ∙ (literal_is value cells closures lemmas lemma_nodes extends kept_now number here at ∙ gives))
+      ∙ (literal_is value cells closures lemmas lemma_nodes tally kept_now number here at ∙ gives))
 
   -- a node's parent, as its cell tells it
   goes_below : (number : ℕ) (here : Node) → slice_get (board_of value).nodes number ≡ Some here → 0 < number → (parent : ℕ) → option_map (λ (cell : Cell). cell.parent) (slice_get seen_cells number) ≡ Some parent → IsBelow (board_of value) number parent here
@@ -413,7 +414,7 @@ module _ (search value : Search) (same : search ≡ value) (cells seen_cells : L
       let own : below.lit ≡ lit = same_some below.lit lit (sym (seen_literal child here at high below.lit below.gives) ∙ sym told) in
       let node_same : below.node ≡ leads.node = same_some below.node leads.node (sym below.is ∙ leads.is) in
       let lits : here.lits ≡ path.branch.lits ++ lit ∷ [] = below.lits ∙ ap₂ (λ front last. front ++ last ∷ []) (ap (λ (one : Node). one.lits) node_same ∙ sym leads.lits) own in
-      let are = live_branch (setting_of value) (board_of value) kept_now.problem (replay_kept value cells closures lemmas lemma_nodes extends kept_now) kept_now.budget kept_now.weight child here at (unshut here at) in
+      let are = live_branch (setting_of value) (board_of value) kept_now.problem (replay_kept value cells closures lemmas lemma_nodes tally kept_now) kept_now.budget kept_now.weight child here at (unshut here at) in
       let can = branch_last value.problem path.branch.lits lit (subst (AreBranch value.problem) lits are) in
       let branch_is : path.branch ≡ record { problem = value.problem; lits = path.branch.lits } = λ i. record { problem = leads.problem i; lits = path.branch.lits } in
       record {

@@ -17,6 +17,7 @@ use Rattle.tree_board.specs.Barring.{cases_before, earlier_in}
 use Rattle.tree_board.specs.Boards.{Board}
 use Rattle.tree_board.specs.Cells.{parent_of}
 use Rattle.tree_board.specs.Facts.{HasChildren, IsBoard, IsPath}
+use Rattle.tree_board.specs.declared.tally.Tally.{Tally}
 use Rattle.tree_board.specs.Keeping.{IsKeeping}
 use Rattle.tree_board.specs.Nodes.{Node}
 use Rattle.tree_board.specs.Readers.{first_child_of, instance_of, shown}
@@ -135,18 +136,18 @@ bars_start nodes start small met none =
     record { top = here; starts = is; here = here; is = is; rising = λ e. e; same = λ lit. nothing_more (holds here.barred lit) ∙ ap (λ lits. holds here.barred lit || holds lits lit) (sym none) }
 
 -- the same of slices that show the fields, and of the search that callers see
-module _ (search value : Search) (same : search ≡ value) (cells seen_cells : List Cell) (closures : List Closure) (lemmas : List Pair) (lemma_nodes : List ℕ) (extends : ℕ) (keeping : IsKeeping search cells closures lemmas lemma_nodes extends)
+module _ (search value : Search) (same : search ≡ value) (cells seen_cells : List Cell) (closures : List Closure) (lemmas : List Pair) (lemma_nodes : List ℕ) (tally : Tally) (keeping : IsKeeping search cells closures lemmas lemma_nodes tally)
     (seen_journal : List Event) (cells_are : seen_cells ≡ cells) (journal_is : seen_journal ≡ search.journal) (start number : ℕ) (met : List Lit) (way : IsBarredUpTo (board_of value).nodes start number met) where
-  kept_now : IsKeeping value cells closures lemmas lemma_nodes extends
-  kept_now = subst (λ one. IsKeeping one cells closures lemmas lemma_nodes extends) same keeping
+  kept_now : IsKeeping value cells closures lemmas lemma_nodes tally
+  kept_now = subst (λ one. IsKeeping one cells closures lemmas lemma_nodes tally) same keeping
 
   facts_now : IsBoard (setting_of value) (board_of value)
-  facts_now = board_kept value cells closures lemmas lemma_nodes extends kept_now
+  facts_now = board_kept value cells closures lemmas lemma_nodes tally kept_now
 
   pub bars_within : number < length seen_cells
   bars_within =
       let small = slice_get_within (board_of value).nodes number way.here way.is in
-      let sizes = nodes_kept value cells closures lemmas lemma_nodes extends kept_now in
+      let sizes = nodes_kept value cells closures lemmas lemma_nodes tally kept_now in
       let shown_size = ap length cells_are in
       omega (arith, small, sizes, shown_size)
 
@@ -158,7 +159,7 @@ module _ (search value : Search) (same : search ≡ value) (cells seen_cells : L
   earlier_seen : (parent : ℕ) → earlier_in seen_cells seen_journal parent number ≡ cases_before (shown instance_of (board_of value).nodes parent) (shown first_child_of (board_of value).nodes parent) number
   earlier_seen parent =
       ap₂ (λ (cs : List Cell) (js : List Event). earlier_in cs js parent number) cells_are (journal_is ∙ ap (λ (one : Search). one.journal) same)
-      ∙ ap₂ (λ (i : Option Inst) (f : Option ℕ). cases_before i f number) (instance_kept value cells closures lemmas lemma_nodes extends kept_now parent) (first_child_kept value cells closures lemmas lemma_nodes extends kept_now parent)
+      ∙ ap₂ (λ (i : Option Inst) (f : Option ℕ). cases_before i f number) (instance_kept value cells closures lemmas lemma_nodes tally kept_now parent) (first_child_kept value cells closures lemmas lemma_nodes tally kept_now parent)
 
   -- a step up
   pub bars_go : number ≢ 0 → (parent : ℕ) → option_map (λ (cell : Cell). cell.parent) (slice_get seen_cells number) ≡ Some parent → (pushed earlier : List Lit) → earlier ≡ earlier_in seen_cells seen_journal parent number → pushed ≡ met ++ earlier

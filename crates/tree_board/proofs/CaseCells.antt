@@ -37,3 +37,7 @@ closures_push (one ∷ more) last = ap (with_closure one) (closures_push more la
 pub reasons_push : (cases : List Child) (last : Child) → reasons_of (cases ++ last ∷ []) ≡ reasons_of cases ++ last.at_once ∷ []
 reasons_push [] last = refl
 reasons_push (one ∷ more) last = ap (λ rest. one.at_once ∷ rest) (reasons_push more last)
+
+pub cells_length : (parent place : ℕ) (reasons : List (Option Closure)) → length (cells_by parent place reasons) ≡ length reasons
+cells_length parent place [] = refl
+cells_length parent place (one ∷ more) = ap suc (cells_length parent (place_after place one) more)

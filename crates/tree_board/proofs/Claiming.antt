@@ -28,6 +28,7 @@ use Rattle.tree_board.specs.Boards.{Board, count}
 use Rattle.tree_board.specs.CellStanding.{is_open_yet}
 use Rattle.tree_board.specs.Children.{nodes_of_cases}
 use Rattle.tree_board.specs.Claims.{AreNewOpen, IsExtension, IsOwnStep, IsQuickAt, IsStepWith, IsTask, event_found, open_case, open_cases, quick_event}
+use Rattle.tree_board.specs.declared.tally.Tally.{Tally}
 use Rattle.tree_board.specs.Keeping.{IsKeeping}
 use Rattle.tree_board.specs.Lawful.{IsLawful, IsReplay, cover_for, lemma_for}
 use Rattle.tree_board.specs.NodeStates.{Open, is_open}
@@ -47,7 +48,7 @@ use Rattle.tree_board.proofs.QuickSettling.{same_node}
 
 -- ---- open nodes
 
-module _ (value : Search) (cells : List Cell) (closures : List Closure) (lemmas : List Pair) (lemma_nodes : List ℕ) (extends : ℕ) (keeping : IsKeeping value cells closures lemmas lemma_nodes extends) where
+module _ (value : Search) (cells : List Cell) (closures : List Closure) (lemmas : List Pair) (lemma_nodes : List ℕ) (tally : Tally) (keeping : IsKeeping value cells closures lemmas lemma_nodes tally) where
   pub open_exactly : (number : ℕ) (answer : Bool) → answer ≡ option_map_or (λ (cell : Cell). is_open_yet cell.settled) (slice_get cells number) false → IsTrue answer ↔ IsOpenAt (board_of value) number
   open_exactly number answer is = by (slice_get (board_of value).nodes number) refl
     where
@@ -67,7 +68,7 @@ module _ (value : Search) (cells : List Cell) (closures : List Closure) (lemmas 
   pub task_is : (number : ℕ) (lits barred : List Lit) → IsOpenWith (board_of value) number lits barred → IsUntouched (setting_of value) (board_of value) number → (problem : ProblemData) → problem ≡ value.problem → (weight : ℕ) → weight ≡ value.limits.weight → (own : List Lit) → own ≡ lits
       → IsTask value number problem own barred weight
   task_is number lits barred opened untouched problem problem_same weight weight_same own own_is =
-      let branch = open_branch (setting_of value) (board_of value) keeping.problem (replay_kept value cells closures lemmas lemma_nodes extends keeping) keeping.budget keeping.weight number opened.node opened.is opened.opened in
+      let branch = open_branch (setting_of value) (board_of value) keeping.problem (replay_kept value cells closures lemmas lemma_nodes tally keeping) keeping.budget keeping.weight number opened.node opened.is opened.opened in
       record {
         opened = subst (λ held. IsOpenWith (board_of value) number held barred) (sym own_is) opened;
         untouched = untouched;
@@ -77,19 +78,19 @@ module _ (value : Search) (cells : List Cell) (closures : List Closure) (lemmas 
       }
 
   -- the budget is spent exactly where it is not above the count
-  spent_exactly : (answer : Bool) → (answer ≡ true → value.limits.budget ≤ extends) → (value.limits.budget ≤ extends → answer ≡ true) → IsTrue answer ↔ (count (board_of value) ≡ value.limits.budget)
+  spent_exactly : (answer : Bool) → (answer ≡ true → value.limits.budget ≤ tally.extensions) → (value.limits.budget ≤ tally.extensions → answer ≡ true) → IsTrue answer ↔ (count (board_of value) ≡ value.limits.budget)
   spent_exactly answer there back =
-      let most = within_budget (setting_of value) (board_of value) (replay_kept value cells closures lemmas lemma_nodes extends keeping) in
+      let most = within_budget (setting_of value) (board_of value) (replay_kept value cells closures lemmas lemma_nodes tally keeping) in
       let own = keeping.count in
       (λ holds. let least = there holds in omega (arith, most, own, least), λ same. back (omega (arith, own, same)))
 
-  pub spent_here : IsTrue (nat_le value.limits.budget extends) ↔ (Unit {0} × (count (board_of value) ≡ value.limits.budget))
+  pub spent_here : IsTrue (nat_le value.limits.budget tally.extensions) ↔ (Unit {0} × (count (board_of value) ≡ value.limits.budget))
   spent_here =
-      let both = spent_exactly (nat_le value.limits.budget extends) (leb-true value.limits.budget extends) (le-leb value.limits.budget extends) in
+      let both = spent_exactly (nat_le value.limits.budget tally.extensions) (leb-true value.limits.budget tally.extensions) (le-leb value.limits.budget tally.extensions) in
       (λ holds. (tt, both.0 holds), λ spent. both.1 spent.1)
 
-  pub room_here : nat_le value.limits.budget extends ≡ false → count (board_of value) < value.limits.budget
-  room_here not = let less = leb-false value.limits.budget extends not in let own = keeping.count in omega (arith, less, own)
+  pub room_here : nat_le value.limits.budget tally.extensions ≡ false → count (board_of value) < value.limits.budget
+  room_here not = let less = leb-false value.limits.budget tally.extensions not in let own = keeping.count in omega (arith, less, own)
 
 -- ---- steps
 

@@ -120,7 +120,7 @@ within_or_not n a size = elim (cases_lt n a) [
   ]
 ]
 
-split_same : (i j : Inst) (a b : ℕ) → Split i a ≡ Split j b → (i ≡ j) × (a ≡ b)
+pub split_same : (i j : Inst) (a b : ℕ) → Split i a ≡ Split j b → (i ≡ j) × (a ≡ b)
 split_same i j a b e = (cc, cc)
 
 -- the number is none of the node's children

@@ -1,5 +1,5 @@
 -- What the fields of a board keep when an event comes.
-use Rattle.std.proofs.Common.{◌≡◌, ℕ, suc, ◌+◌, ◌<◌, ◌≤◌, ◌^◌, List, [], ◌∷◌, ◌++◌, length, map, slice_get, slice_set, Option, Some, None, refl, sym, ap, ap₂, subst, ◌∙◌, arith}
+use Rattle.std.proofs.Common.{◌≡◌, ℕ, suc, ◌+◌, ◌-◌, ◌<◌, ◌≤◌, ◌^◌, List, [], ◌∷◌, ◌++◌, length, map, slice_get, slice_set, Option, Some, None, refl, sym, ap, ap₂, subst, ◌∙◌, arith}
 use Rattle.std.proofs.lemmas.List.{length-append}
 use Rattle.mg_word.specs.declared.lit.Lit.{Lit}
 use Rattle.mg_meaning.specs.Folding.{Pair}
@@ -17,11 +17,13 @@ use Rattle.tree_board.specs.Closings.{due, closed_by, closed_node, closed_at, cl
 use Rattle.tree_board.specs.Effects.{settled, born, moved, effect}
 use Rattle.tree_board.specs.Events.{node_of, extends_in}
 use Rattle.tree_board.specs.Facts.{StateHolds, IsBoard}
+use Rattle.tree_board.specs.declared.tally.Tally.{Tally}
 use Rattle.tree_board.specs.Keeping.{IsKeeping}
 use Rattle.tree_board.specs.Lawful.{IsLawful, IsReplay}
 use Rattle.tree_board.specs.Nodes.{Node}
 use Rattle.tree_board.specs.Searches.{Search, setting_of, board_of}
 use Rattle.tree_board.specs.Settings.{Setting}
+use Rattle.tree_board.specs.Tallies.{IsTally, opens_in, tally_after}
 use Rattle.tree_board.proofs.Bounds.{boards_bounded}
 use Rattle.tree_board.proofs.Budgets.{within_budget, few_nodes}
 use Rattle.tree_board.proofs.CaseCells.{closures-cases}
@@ -33,6 +35,7 @@ use Rattle.tree_board.proofs.Moving.{moved_board}
 use Rattle.tree_board.proofs.Places.{length-slice_set, there_now}
 use Rattle.tree_board.proofs.Replays.{climb_keeps, effect_is}
 use Rattle.tree_board.proofs.Settling.{settled_keeps}
+use Rattle.tree_board.proofs.Tallying.{effect_tally, opens_cases, opens_few, opens_some}
 
 -- the cells with that one settled
 abbrev pub AreSettled : List Cell → ℕ → Settled → Option Pair → List Cell → Type 0
@@ -40,7 +43,7 @@ AreSettled old number settled lemma new = (cell : Cell) → slice_get old number
 
 -- ---- sizes
 
-cells-cases : (parent place : ℕ) (cases : List Child) → length (cells_of_cases parent place cases) ≡ length cases
+pub cells-cases : (parent place : ℕ) (cases : List Child) → length (cells_of_cases parent place cases) ≡ length cases
 cells-cases parent place [] = refl
 cells-cases parent place (one ∷ more) = ap suc (cells-cases parent (place_after place one.at_once) more)
 
@@ -62,7 +65,7 @@ closed_at_size setting number size board same = by (slice_get board.nodes number
 
 -- ---- an event that may come next
 
-module _ (search : Search) (cells : List Cell) (closures : List Closure) (lemmas : List Pair) (lemma_nodes : List ℕ) (extends : ℕ) (keeping : IsKeeping search cells closures lemmas lemma_nodes extends)
+module _ (search : Search) (cells : List Cell) (closures : List Closure) (lemmas : List Pair) (lemma_nodes : List ℕ) (tally : Tally) (keeping : IsKeeping search cells closures lemmas lemma_nodes tally)
     (event : Event) (lawful : IsLawful (setting_of search) (board_of search) event) where
   abbrev setting : Setting
   setting = setting_of search
@@ -77,10 +80,10 @@ module _ (search : Search) (cells : List Cell) (closures : List Closure) (lemmas
   after = moved board node event
 
   facts : IsBoard setting board
-  facts = board_kept search cells closures lemmas lemma_nodes extends keeping
+  facts = board_kept search cells closures lemmas lemma_nodes tally keeping
 
   next_replay : IsReplay setting (effect setting board event)
-  next_replay = replay_goes_on setting board event (replay_kept search cells closures lemmas lemma_nodes extends keeping) lawful
+  next_replay = replay_goes_on setting board event (replay_kept search cells closures lemmas lemma_nodes tally keeping) lawful
 
   unclosed : node.own ≡ None
   unclosed = subst (StateHolds setting board (node_of event) node) lawful.opened (facts.each (node_of event) node lawful.is).state
@@ -93,7 +96,7 @@ module _ (search : Search) (cells : List Cell) (closures : List Closure) (lemmas
       let sizes = length-append (slice_set board.nodes (node_of event) (settled board node event)) (born board node event) in
       let old = length-slice_set board.nodes (node_of event) (settled board node event) in
       let new : length (born board node event) ≡ length cases = ap length (sym (born_are board node event)) ∙ (nodes-cases (length board.nodes) node.path node.lits (cases_made node.lits node.barred event) ∙ ap length (sym (are node lawful.is))) in
-      let seen = nodes_kept search cells closures lemmas lemma_nodes extends keeping in
+      let seen = nodes_kept search cells closures lemmas lemma_nodes tally keeping in
       omega (arith, sizes, old, new, seen)
 
   effect_size : (cases : List Child) → AreCases board event cases → length (effect setting board event).nodes ≡ length cells + length cases
@@ -111,21 +114,43 @@ module _ (search : Search) (cells : List Cell) (closures : List Closure) (lemmas
 
   pub few_events : length search.journal < 2 ^ 32
   few_events =
-      let bounded = boards_bounded setting board keeping.problem (replay_kept search cells closures lemmas lemma_nodes extends keeping) in
+      let bounded = boards_bounded setting board keeping.problem (replay_kept search cells closures lemmas lemma_nodes tally keeping) in
       let own : board.journal ≡ search.journal = events_kept setting search.journal opening keeping.lawful in
       let same = ap length own in
-      let most = few_nodes setting board keeping.problem (replay_kept search cells closures lemmas lemma_nodes extends keeping) keeping.budget in
+      let most = few_nodes setting board keeping.problem (replay_kept search cells closures lemmas lemma_nodes tally keeping) keeping.budget in
       omega (arith, bounded.events, same, most)
 
-  counted : count (effect setting board event) ≡ extends + extends_in (event ∷ [])
+  counted : count (effect setting board event) ≡ tally.extensions + extends_in (event ∷ [])
   counted = ap extends_in (effect_journal setting board event lawful) ∙ (extends-append board.journal (event ∷ []) ∙ ap (λ n. n + extends_in (event ∷ [])) (sym keeping.count))
 
-  pub few_extends : extends + extends_in (event ∷ []) < 2 ^ 32
+  pub few_extends : tally.extensions + extends_in (event ∷ []) < 2 ^ 32
   few_extends =
       let spent = within_budget setting (effect setting board event) next_replay in
       let same = counted in
       let most = keeping.budget in
       omega (arith, spent, same, most)
+
+  -- the open ones of the children are those that have no reason to be closed at once
+  children_are : (cases : List Child) → AreCases board event cases → (children : ℕ) → children ≡ length cases - length (closures_of cases) → children ≡ opens_in (born board node event)
+  children_are cases are children is =
+      let made : cases ≡ cases_made node.lits node.barred event = are node lawful.is in
+      let sum = opens_cases (length board.nodes) node.path node.lits (cases_made node.lits node.barred event) in
+      let opens = ap opens_in (born_are board node event) in
+      let shut = ap (λ list. length (closures_of list)) made in
+      let size = ap length made in
+      omega (arith, sum, opens, shut, size, is)
+
+  pub some_opens : 0 < tally.opens
+  some_opens = let some = opens_some board.nodes (node_of event) node lawful.is lawful.opened in let own = keeping.tallied.opens in omega (arith, some, own)
+
+  pub few_opens : (cases : List Child) → AreCases board event cases → (children : ℕ) → children ≤ length cases → tally.opens + children ≤ 2 ^ 32
+  few_opens cases are children fewer =
+      let most = few_nodes setting (effect setting board event) keeping.problem next_replay keeping.budget in
+      let size = effect_size cases are in
+      let few = opens_few board.nodes in
+      let own = keeping.tallied.opens in
+      let seen = nodes_kept search cells closures lemmas lemma_nodes tally keeping in
+      omega (arith, most, size, few, own, seen, fewer)
 
   -- ---- the move
 
@@ -138,7 +163,7 @@ module _ (search : Search) (cells : List Cell) (closures : List Closure) (lemmas
         let (cell, there, stands) = cell_at search.journal closures board.kept 0 cells board.nodes keeping.stand.nodes (node_of event) node lawful.is in
         let moves = moved_stand setting board facts search.journal closures lemmas keeping.stand.pairs cells keeping.stand.nodes node event lawful.is unclosed cell there in
         let made : cases ≡ cases_made node.lits node.barred event = are node lawful.is in
-        let settled_same : cell_settled ≡ settled_as (length search.journal) (length board.nodes) event = settled_is ∙ ap (λ n. settled_as (length search.journal) n event) (nodes_kept search cells closures lemmas lemma_nodes extends keeping) in
+        let settled_same : cell_settled ≡ settled_as (length search.journal) (length board.nodes) event = settled_is ∙ ap (λ n. settled_as (length search.journal) n event) (nodes_kept search cells closures lemmas lemma_nodes tally keeping) in
         let lemma_same : lemma ≡ lemma_made lemmas event = lemma_is ∙ ap (λ all. lemma_made all event) (sym keeping.stand.pairs) in
         let settled_are : cells_settled ≡ slice_set cells (node_of event) (settled_cell (settled_as (length search.journal) (length board.nodes) event) (lemma_made lemmas event) cell) =
         are_settled cell there ∙ ap₂ (λ one pair. slice_set cells (node_of event) (settled_cell one pair cell)) settled_same lemma_same in
@@ -192,13 +217,14 @@ module _ (search : Search) (cells : List Cell) (closures : List Closure) (lemmas
           let few = keeping.few in
           omega (arith, seen, same, size, reasons, fewer, few)
 
-      pub event_kept : (extends_after : ℕ) → extends_after ≡ extends + extends_in (event ∷ []) → IsKeeping (record search { journal = journal }) cells_after closures_moved lemmas_after owners_after extends_after
-      event_kept extends_after extends_are = subst (λ events. IsKeeping (record search { journal = events }) cells_after closures_moved lemmas_after owners_after extends_after) (sym journal_is) (record {
+      pub event_kept : (children : ℕ) → children ≡ length cases - length (closures_of cases) → IsKeeping (record search { journal = journal }) cells_after closures_moved lemmas_after owners_after (tally_after tally event children)
+      event_kept children is = subst (λ events. IsKeeping (record search { journal = events }) cells_after closures_moved lemmas_after owners_after (tally_after tally event children)) (sym journal_is) (record {
         problem = keeping.problem;
         budget = keeping.budget;
         weight = keeping.weight;
         lawful = lawful_more setting search.journal opening event keeping.lawful lawful;
         stand = end_stand;
-        count = extends_are ∙ (sym counted ∙ ap count (sym (replay_more setting search.journal opening event)));
+        count = sym counted ∙ ap count (sym (replay_more setting search.journal opening event));
+        tallied = subst (λ one. IsTally one (tally_after tally event children)) (sym (replay_more setting search.journal opening event)) (effect_tally setting board event lawful tally keeping.tallied children (children_are cases are children is));
         few = end_few;
       })

@@ -13,21 +13,24 @@ use Rattle.tree_board.specs.declared.cell.Settled.{Settled}
 use Rattle.tree_board.specs.declared.event.Event.{Event}
 use Rattle.tree_board.specs.declared.mode.Mode.{Mode}
 use Rattle.tree_board.specs.declared.mode.Mode.TheVariants.{List as ListAll, Refute}
-use Rattle.tree_board.specs.NodeStates.{NodeState, Open, Split, Rejected, Settled as SettledBy, Shut, Found, Covered, Heavy, is_open, is_found, is_heavy}
+use Rattle.tree_board.specs.NodeStates.{NodeState, Open, Split, Rejected, Settled as SettledBy, Shut, Found, Covered, Heavy, is_open, is_found}
 use Rattle.tree_board.specs.Nodes.{Node}
 use Rattle.tree_board.specs.Boards.{Board, Kept, pair_at, own_of, is_closed, count}
 use Rattle.tree_board.specs.Lawful.{IsReplay}
 use Rattle.tree_board.specs.Settings.{Setting}
 use Rattle.tree_board.specs.Searches.{Search, setting_of, board_of}
 use Rattle.tree_board.specs.Cells.{StandsForState, StandsFor, StandForNodes}
-use Rattle.tree_board.specs.CellStanding.{is_open_yet, is_found_set, is_too_heavy, is_root_closed, model_in, standing_in}
+use Rattle.tree_board.specs.CellStanding.{is_open_yet, is_found_set, is_root_closed}
 use Rattle.tree_board.specs.Facts.{IsBoard}
+use Rattle.tree_board.specs.declared.tally.Tally.{Tally}
 use Rattle.tree_board.specs.Keeping.{IsKeeping}
 use Rattle.tree_board.specs.Readers.{own_number, lemma_node_at}
 use Rattle.tree_board.specs.Standing.{model_of, some_open, standing_by, state_of}
+use Rattle.tree_board.specs.Tallies.{model_in}
 use Rattle.tree_board.proofs.Budgets.{few_nodes}
 use Rattle.tree_board.proofs.Places.{some_none}
 use Rattle.tree_board.proofs.Replays.{replay_board}
+use Rattle.tree_board.proofs.Tallying.{some_open_counted}
 
 -- ---- lists of lemmas, and their parts
 
@@ -57,16 +60,6 @@ module _ (journal : List Event) (closures : List Closure) (kept : List Kept) whe
   found_same number settled (Covered cover) e = ap is_found_set e
   found_same number settled (Heavy inst) (event, e, at) = ap is_found_set e
 
-  heavy_same : (number : ℕ) (settled : Settled) (state : NodeState) → StandsForState journal closures number settled state → is_too_heavy settled ≡ is_heavy state
-  heavy_same number settled Open e = ap is_too_heavy e
-  heavy_same number settled (Split inst first) (event, e, at) = ap is_too_heavy e
-  heavy_same number settled (Rejected inst) (event, e, at) = ap is_too_heavy e
-  heavy_same number settled (SettledBy lemma) e = ap is_too_heavy e
-  heavy_same number settled (Shut closure) (place, e, at) = ap is_too_heavy e
-  heavy_same number settled Found e = ap is_too_heavy e
-  heavy_same number settled (Covered cover) e = ap is_too_heavy e
-  heavy_same number settled (Heavy inst) (event, e, at) = ap is_too_heavy e
-
   pub length_seen : (first : ℕ) (cells : List Cell) (nodes : List Node) → StandForNodes journal closures kept first cells nodes → length cells ≡ length nodes
   length_seen first [] [] stand = refl
   length_seen first [] (node ∷ nodes) stand = absurd stand
@@ -79,17 +72,6 @@ module _ (journal : List Event) (closures : List Closure) (kept : List Kept) whe
   any_seen f g same first [] (node ∷ nodes) stand = absurd stand
   any_seen f g same first (cell ∷ cells) [] stand = absurd stand
   any_seen f g same first (cell ∷ cells) (node ∷ nodes) (one, stand) = ap₂ (λ here there. here || there) (same first cell.settled node.state one.settled) (any_seen f g same (suc first) cells nodes stand)
-
-  place_seen : (f : Settled → Bool) (g : NodeState → Bool) → ((number : ℕ) (settled : Settled) (state : NodeState) → StandsForState journal closures number settled state → f settled ≡ g state)
-      → (first : ℕ) (cells : List Cell) (nodes : List Node) → StandForNodes journal closures kept first cells nodes → position_or_len (λ (cell : Cell). f cell.settled) cells ≡ position_or_len (λ (node : Node). g node.state) nodes
-  place_seen f g same first [] [] stand = refl
-  place_seen f g same first [] (node ∷ nodes) stand = absurd stand
-  place_seen f g same first (cell ∷ cells) [] stand = absurd stand
-  place_seen f g same first (cell ∷ cells) (node ∷ nodes) (one, stand) = ap₂ (λ here more. cond (not here) (1 + more) 0) (same first cell.settled node.state one.settled) (place_seen f g same (suc first) cells nodes stand)
-
-  first_seen : (f : Settled → Bool) (g : NodeState → Bool) → ((number : ℕ) (settled : Settled) (state : NodeState) → StandsForState journal closures number settled state → f settled ≡ g state)
-      → (first : ℕ) (cells : List Cell) (nodes : List Node) → StandForNodes journal closures kept first cells nodes → position (λ (cell : Cell). f cell.settled) cells ≡ position (λ (node : Node). g node.state) nodes
-  first_seen f g same first cells nodes stand = ap₂ (λ place size. cond (nat_lt place size) (Some place) None) (place_seen f g same first cells nodes stand) (length_seen first cells nodes stand)
 
   root_seen : (first : ℕ) (cells : List Cell) (nodes : List Node) → StandForNodes journal closures kept first cells nodes → is_root_closed cells ≡ is_some (own_of (slice_get nodes 0))
   root_seen first [] [] stand = refl
@@ -132,7 +114,7 @@ own_past setting board facts number past = by (position (λ (one : Kept). nat_eq
         let same : one.node ≡ number = eqb-true one.node number passes in
         absurd (some_none is_kept.node (slice_get board.nodes number) (ap (slice_get board.nodes) (sym same) ∙ is_kept.is) past)
 
-module _ (search : Search) (cells : List Cell) (closures : List Closure) (lemmas : List Pair) (lemma_nodes : List ℕ) (extends : ℕ) (keeping : IsKeeping search cells closures lemmas lemma_nodes extends) where
+module _ (search : Search) (cells : List Cell) (closures : List Closure) (lemmas : List Pair) (lemma_nodes : List ℕ) (tally : Tally) (keeping : IsKeeping search cells closures lemmas lemma_nodes tally) where
   pub replay_kept : IsReplay (setting_of search) (board_of search)
   replay_kept = record { events = search.journal; lawful = keeping.lawful; is = refl }
 
@@ -166,14 +148,15 @@ module _ (search : Search) (cells : List Cell) (closures : List Closure) (lemmas
           let same : 0 + number ≡ number = omega arith in
           ap (option_and_then (λ (cell : Cell). cell.own_lemma)) is ∙ (stands.own ∙ ap (own_number (board_of search).kept) same)
 
-  pub state_kept : (spent : Bool) → spent ≡ nat_le search.limits.budget extends → standing_in search.mode cells spent ≡ state_of (setting_of search) (board_of search)
+  pub state_kept : (spent : Bool) → spent ≡ nat_le search.limits.budget tally.extensions
+      → standing_by (is_root_closed cells) (model_in search.mode tally.least_found) (nat_lt 0 tally.opens) spent tally.has_heavy ≡ state_of (setting_of search) (board_of search)
   state_kept spent is =
-      ap (λ one. standing_by one (model_in search.mode cells) (list_any (λ (cell : Cell). is_open_yet cell.settled) cells) spent (list_any (λ (cell : Cell). is_too_heavy cell.settled) cells)) (root_seen search.journal closures (board_of search).kept 0 cells (board_of search).nodes keeping.stand.nodes)
-      ∙ (ap (λ one. standing_by (is_closed (board_of search) 0) one (list_any (λ (cell : Cell). is_open_yet cell.settled) cells) spent (list_any (λ (cell : Cell). is_too_heavy cell.settled) cells)) (model_same search.mode)
-      ∙ (ap (λ one. standing_by (is_closed (board_of search) 0) (model_of search.mode (board_of search)) one spent (list_any (λ (cell : Cell). is_too_heavy cell.settled) cells)) (any_seen search.journal closures (board_of search).kept is_open_yet is_open (open_same search.journal closures (board_of search).kept) 0 cells (board_of search).nodes keeping.stand.nodes)
-      ∙ (ap (λ one. standing_by (is_closed (board_of search) 0) (model_of search.mode (board_of search)) (some_open (board_of search)) one (list_any (λ (cell : Cell). is_too_heavy cell.settled) cells)) (is ∙ ap (nat_le search.limits.budget) keeping.count)
-      ∙ ap (λ one. standing_by (is_closed (board_of search) 0) (model_of search.mode (board_of search)) (some_open (board_of search)) (nat_le search.limits.budget (count (board_of search))) one) (any_seen search.journal closures (board_of search).kept is_too_heavy is_heavy (heavy_same search.journal closures (board_of search).kept) 0 cells (board_of search).nodes keeping.stand.nodes))))
+      ap (λ one. standing_by one (model_in search.mode tally.least_found) (nat_lt 0 tally.opens) spent tally.has_heavy) (root_seen search.journal closures (board_of search).kept 0 cells (board_of search).nodes keeping.stand.nodes)
+      ∙ (ap (λ one. standing_by (is_closed (board_of search) 0) one (nat_lt 0 tally.opens) spent tally.has_heavy) (model_same search.mode)
+      ∙ (ap (λ one. standing_by (is_closed (board_of search) 0) (model_of search.mode (board_of search)) one spent tally.has_heavy) (ap (nat_lt 0) keeping.tallied.opens ∙ some_open_counted (board_of search).nodes)
+      ∙ (ap (λ one. standing_by (is_closed (board_of search) 0) (model_of search.mode (board_of search)) (some_open (board_of search)) one tally.has_heavy) (is ∙ ap (nat_le search.limits.budget) keeping.count)
+      ∙ ap (λ one. standing_by (is_closed (board_of search) 0) (model_of search.mode (board_of search)) (some_open (board_of search)) (nat_le search.limits.budget (count (board_of search))) one) keeping.tallied.heavy)))
     where
-      model_same : (mode : Mode) → model_in mode cells ≡ model_of mode (board_of search)
-      model_same Refute = first_seen search.journal closures (board_of search).kept is_found_set is_found (found_same search.journal closures (board_of search).kept) 0 cells (board_of search).nodes keeping.stand.nodes
+      model_same : (mode : Mode) → model_in mode tally.least_found ≡ model_of mode (board_of search)
+      model_same Refute = keeping.tallied.found
       model_same ListAll = refl

@@ -30,6 +30,7 @@ use Rattle.case_split.specs.declared.child.Closure.{Closure}
 use Rattle.tree_board.specs.declared.cell.Cell.{Cell}
 use Rattle.tree_board.specs.Boards.{Board}
 use Rattle.tree_board.specs.CellStanding.{is_found_set}
+use Rattle.tree_board.specs.declared.tally.Tally.{Tally}
 use Rattle.tree_board.specs.Keeping.{IsKeeping}
 use Rattle.tree_board.specs.Readers.{lits_of}
 use Rattle.tree_board.specs.Searches.{Search, board_of}
@@ -191,17 +192,17 @@ found_all nodes i sets are all = are ∙ ap found_sets (take_whole nodes i all)
 
 -- ---- the set of one node
 
-module _ (value : Search) (cells : List Cell) (closures : List Closure) (lemmas : List Pair) (lemma_nodes : List ℕ) (extends : ℕ) (keeping : IsKeeping value cells closures lemmas lemma_nodes extends) where
+module _ (value : Search) (cells : List Cell) (closures : List Closure) (lemmas : List Pair) (lemma_nodes : List ℕ) (tally : Tally) (keeping : IsKeeping value cells closures lemmas lemma_nodes tally) where
   pub no_set : (number : ℕ) → number < length (board_of value).nodes → option_map (λ (cell : Cell). is_found_set cell.settled) (slice_get cells number) ≡ Some false → found_set (slice_get (board_of value).nodes number) ≡ []
   no_set number small unfound =
-      let (node, at) = some_node value cells closures lemmas lemma_nodes extends keeping (board_of value).nodes number small in
-      let test : is_found node.state ≡ false = same_some (is_found node.state) false (sym (found_here value cells closures lemmas lemma_nodes extends keeping number node at) ∙ unfound) in
+      let (node, at) = some_node value cells closures lemmas lemma_nodes tally keeping (board_of value).nodes number small in
+      let test : is_found node.state ≡ false = same_some (is_found node.state) false (sym (found_here value cells closures lemmas lemma_nodes tally keeping number node at) ∙ unfound) in
       ap found_set at ∙ ap (λ b. set_if b (set_of node.lits) []) test
 
   pub one_set : (number : ℕ) → number < length (board_of value).nodes → option_map (λ (cell : Cell). is_found_set cell.settled) (slice_get cells number) ≡ Some true → (lits : List Lit) → lits_of (board_of value).nodes number ≡ Some lits
       → found_set (slice_get (board_of value).nodes number) ≡ set_of lits ∷ []
   one_set number small found lits lits_is =
-      let (node, at) = some_node value cells closures lemmas lemma_nodes extends keeping (board_of value).nodes number small in
-      let test : is_found node.state ≡ true = same_some (is_found node.state) true (sym (found_here value cells closures lemmas lemma_nodes extends keeping number node at) ∙ found) in
+      let (node, at) = some_node value cells closures lemmas lemma_nodes tally keeping (board_of value).nodes number small in
+      let test : is_found node.state ≡ true = same_some (is_found node.state) true (sym (found_here value cells closures lemmas lemma_nodes tally keeping number node at) ∙ found) in
       let own : node.lits ≡ lits = same_some node.lits lits (sym (ap (option_map (λ (one : Node). one.lits)) at) ∙ lits_is) in
       ap found_set at ∙ (ap (λ b. set_if b (set_of node.lits) []) test ∙ ap (λ held. set_of held ∷ []) own)

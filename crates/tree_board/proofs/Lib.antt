@@ -10,6 +10,7 @@ pub mod Below
 pub mod Moving
 pub mod Closing
 pub mod Replays
+pub mod Tallying
 pub mod Living
 pub mod Covering
 pub mod Sums

@@ -87,7 +87,7 @@ one_is_lawful setting board this that one two same =
     (subst (λ (node : Node). IsDue setting board node (lemma_for board node) (cover_for setting.mode board node) this) nodes one.due) two.due
 
 -- two nodes neither of which is before the other are one
-same_place : (setting : Setting) (board : Board) → IsBoard setting board → (a b : ℕ) (one two : Node) → slice_get board.nodes a ≡ Some one → slice_get board.nodes b ≡ Some two → tree_cmp one two ≢ Less → tree_cmp two one ≢ Less → a ≡ b
+pub same_place : (setting : Setting) (board : Board) → IsBoard setting board → (a b : ℕ) (one two : Node) → slice_get board.nodes a ≡ Some one → slice_get board.nodes b ≡ Some two → tree_cmp one two ≢ Less → tree_cmp two one ≢ Less → a ≡ b
 same_place setting board facts a b one two is_a is_b not_before not_behind =
     let total = lists_total nat_cmp_total in
     let tie : slice_cmp nat_cmp (reverse one.path) (reverse two.path) ≡ Equal = by (tree_cmp one two) (tree_cmp two one) (total.antisymm (reverse one.path) (reverse two.path)) not_before not_behind in

@@ -25,6 +25,7 @@ use Rattle.tree_board.specs.Children.{nodes_of_cases, state_at_birth}
 use Rattle.tree_board.specs.Closings.{closed_at, closed_by, closed_node, due, kept_with}
 use Rattle.tree_board.specs.Effects.{born, effect, moved, replay_from, settled}
 use Rattle.tree_board.specs.Events.{node_of}
+use Rattle.tree_board.specs.declared.tally.Tally.{Tally}
 use Rattle.tree_board.specs.Keeping.{IsKeeping}
 use Rattle.tree_board.specs.Lawful.{AreLawful, IsLawful}
 use Rattle.tree_board.specs.NodeStates.{NodeState, Covered, Found, Heavy, Open, Rejected, Settled, Shut, Split}
@@ -347,8 +348,8 @@ length_map f [] = refl
 length_map f (x ∷ xs) = ap suc (length_map f xs)
 
 -- as many lemmas as are kept
-pub kept_length : (value : Search) (cells : List Cell) (closures : List Closure) (lemmas : List Pair) (lemma_nodes : List ℕ) (extends : ℕ) → IsKeeping value cells closures lemmas lemma_nodes extends → length lemmas ≡ length (board_of value).kept
-kept_length value cells closures lemmas lemma_nodes extends keeping = ap length keeping.stand.pairs ∙ length_map (λ (one : Kept). one.pair) (board_of value).kept
+pub kept_length : (value : Search) (cells : List Cell) (closures : List Closure) (lemmas : List Pair) (lemma_nodes : List ℕ) (tally : Tally) → IsKeeping value cells closures lemmas lemma_nodes tally → length lemmas ≡ length (board_of value).kept
+kept_length value cells closures lemmas lemma_nodes tally keeping = ap length keeping.stand.pairs ∙ length_map (λ (one : Kept). one.pair) (board_of value).kept
 
 -- a lemma within that number is there
 pub lemma_there : (kept : List Kept) (number : ℕ) → number < length kept → pair_at kept (number + 1) ≡ None → ⊥

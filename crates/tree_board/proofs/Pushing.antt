@@ -12,6 +12,7 @@ use Rattle.tree_board.specs.declared.event.Event.{Event}
 use Rattle.tree_board.specs.Boards.{Board, is_closed, own_of}
 use Rattle.tree_board.specs.Cells.{StandsForState}
 use Rattle.tree_board.specs.CellStanding.{is_open_yet, is_root_closed}
+use Rattle.tree_board.specs.declared.tally.Tally.{Tally}
 use Rattle.tree_board.specs.Keeping.{IsKeeping}
 use Rattle.tree_board.specs.NodeStates.{NodeState, Open, Split, Rejected, Settled as SettledBy, Shut, Found, Covered, Heavy, is_open}
 use Rattle.tree_board.specs.Nodes.{Node}
@@ -40,7 +41,7 @@ module _ (journal : List Event) (closures : List Closure) where
   open_same number settled (Covered cover) e = ap is_open_yet e
   open_same number settled (Heavy inst) (event, e, at) = ap is_open_yet e
 
-module _ (search : Search) (cells : List Cell) (closures : List Closure) (lemmas : List Pair) (lemma_nodes : List ℕ) (extends : ℕ) (keeping : IsKeeping search cells closures lemmas lemma_nodes extends) where
+module _ (search : Search) (cells : List Cell) (closures : List Closure) (lemmas : List Pair) (lemma_nodes : List ℕ) (tally : Tally) (keeping : IsKeeping search cells closures lemmas lemma_nodes tally) where
   pub open_kept : (number : ℕ) → option_map (λ (cell : Cell). is_open_yet cell.settled) (slice_get cells number) ≡ option_map (λ (node : Node). is_open node.state) (slice_get (board_of search).nodes number)
   open_kept number = seen search.journal closures (board_of search).kept (λ cell. is_open_yet cell.settled) (λ node. is_open node.state) (λ n cell node stands. open_same search.journal closures n cell.settled node.state stands.settled) 0 cells (board_of search).nodes keeping.stand.nodes number
 
@@ -54,7 +55,7 @@ module _ (search : Search) (cells : List Cell) (closures : List Closure) (lemmas
       by (cell ∷ list) (node ∷ nodes) e = same_some cell.is_closed (is_some node.own) e
 
   pub known_kept : IsKnown (setting_of search) (board_of search)
-  known_kept = record { real = keeping.problem; budget = keeping.budget; weight = keeping.weight; replay = replay_kept search cells closures lemmas lemma_nodes extends keeping }
+  known_kept = record { real = keeping.problem; budget = keeping.budget; weight = keeping.weight; replay = replay_kept search cells closures lemmas lemma_nodes tally keeping }
 
 -- ---- from the last down
 

@@ -16,6 +16,7 @@ use Rattle.tree_board.specs.declared.mode.Mode.{Mode}
 use Rattle.tree_board.specs.declared.mode.Mode.TheVariants.{List as ListAll, Refute}
 use Rattle.tree_board.specs.Boards.{Board, Kept}
 use Rattle.tree_board.specs.CellStanding.{is_found_set}
+use Rattle.tree_board.specs.declared.tally.Tally.{Tally}
 use Rattle.tree_board.specs.Keeping.{IsKeeping}
 use Rattle.tree_board.specs.Lawful.{applies_at, cover_for, lemma_for}
 use Rattle.tree_board.specs.NodeStates.{is_found}
@@ -104,7 +105,7 @@ open_there board number opened = slice_get_within board.nodes number opened.node
 
 -- ---- of a board
 
-module _ (value : Search) (cells : List Cell) (closures : List Closure) (lemmas : List Pair) (lemma_nodes : List ℕ) (extends : ℕ) (keeping : IsKeeping value cells closures lemmas lemma_nodes extends) where
+module _ (value : Search) (cells : List Cell) (closures : List Closure) (lemmas : List Pair) (lemma_nodes : List ℕ) (tally : Tally) (keeping : IsKeeping value cells closures lemmas lemma_nodes tally) where
   pub found_here : (number : ℕ) (node : Node) → slice_get (board_of value).nodes number ≡ Some node → option_map (λ (cell : Cell). is_found_set cell.settled) (slice_get cells number) ≡ Some (is_found node.state)
   found_here number node at =
       let (cell, is, stands) = cell_at value.journal closures (board_of value).kept 0 cells (board_of value).nodes keeping.stand.nodes number node at in

@@ -13,6 +13,7 @@ use Rattle.tree_board.specs.Boards.{Kept}
 use Rattle.tree_board.specs.Kinds.{kind_of, kind_by}
 use Rattle.tree_board.specs.Searches.{Search, board_of}
 use Rattle.tree_board.specs.Cells.{StandsForState, StandsFor, StandForNodes}
+use Rattle.tree_board.specs.declared.tally.Tally.{Tally}
 use Rattle.tree_board.specs.Keeping.{IsKeeping}
 use Rattle.tree_board.specs.Readers.{instance_of, first_child_of, lemma_by, closure_at, shown, instance_in, event_of_cell, first_child_of_cell, lemma_of_cell, closure_of_cell, kind_of_cell, cell_shows}
 
@@ -98,7 +99,7 @@ then_then f g (Some x) = refl
 
 -- ---- a board's fields show what the nodes of its journal's board do
 
-module _ (search : Search) (cells : List Cell) (closures : List Closure) (lemmas : List Pair) (lemma_nodes : List ℕ) (extends : ℕ) (keeping : IsKeeping search cells closures lemmas lemma_nodes extends) (number : ℕ) where
+module _ (search : Search) (cells : List Cell) (closures : List Closure) (lemmas : List Pair) (lemma_nodes : List ℕ) (tally : Tally) (keeping : IsKeeping search cells closures lemmas lemma_nodes tally) (number : ℕ) where
   pub kind_kept : option_map (λ (cell : Cell). kind_of_cell cell.is_closed cell.settled) (slice_get cells number) ≡ option_map kind_of (slice_get (board_of search).nodes number)
   kind_kept = seen search.journal closures (board_of search).kept (λ cell. kind_of_cell cell.is_closed cell.settled) kind_of (kind_same search.journal closures (board_of search).kept) 0 cells (board_of search).nodes keeping.stand.nodes number
 

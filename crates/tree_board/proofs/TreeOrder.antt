@@ -37,13 +37,13 @@ ends_with setting board facts number (parent ∷ above) node at path top one is 
     let (front, same) = ends_with setting board facts parent above up up_at up_path top one is later in
     (number ∷ front, path ∙ ap (λ rest. number ∷ rest) (sym up_path ∙ same))
 
-ends : (setting : Setting) (board : Board) → IsBoard setting board → (number top : ℕ) (node one : Node) → slice_get board.nodes number ≡ Some node → slice_get board.nodes top ≡ Some one → IsAmong node.path top → (front : List ℕ) × (node.path ≡ front ++ one.path)
+pub ends : (setting : Setting) (board : Board) → IsBoard setting board → (number top : ℕ) (node one : Node) → slice_get board.nodes number ≡ Some node → slice_get board.nodes top ≡ Some one → IsAmong node.path top → (front : List ℕ) × (node.path ≡ front ++ one.path)
 ends setting board facts number top node one at is there =
     let own = facts.each number node at in
     ends_with setting board facts number own.above node at own.path top one is (subst (λ path. IsAmong path top) own.path there)
 
 -- from the root on
-turned : (path front tail : List ℕ) → path ≡ front ++ tail → reverse path ≡ reverse tail ++ reverse front
+pub turned : (path front tail : List ℕ) → path ≡ front ++ tail → reverse path ≡ reverse tail ++ reverse front
 turned path front tail e = ap reverse e ∙ reverse-append front tail
 
 some_longer : (xs : List ℕ) (n : ℕ) (more : List ℕ) → slice_cmp nat_cmp [] (xs ++ n ∷ more) ≡ Less

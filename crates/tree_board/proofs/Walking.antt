@@ -27,12 +27,12 @@ use Rattle.tree_board.proofs.OneWorker.{first_open_same}
 use Rattle.tree_board.proofs.Replays.{replay_board}
 
 -- a path that goes on below a node goes through one of its children
-through_child : (nodes : List Node) (number : ℕ) (above : List ℕ) → IsPath nodes (number ∷ above) → (top : ℕ) → IsAmong above top → (child : ℕ) × IsChildOf nodes child top × IsAmong (number ∷ above) child
+pub through_child : (nodes : List Node) (number : ℕ) (above : List ℕ) → IsPath nodes (number ∷ above) → (top : ℕ) → IsAmong above top → (child : ℕ) × IsChildOf nodes child top × IsAmong (number ∷ above) child
 through_child nodes number [] path top bad = absurd bad
 through_child nodes number (parent ∷ above) path top (inl same) = (number, subst (IsChildOf nodes number) same path.0, inl refl)
 through_child nodes number (parent ∷ above) path top (inr later) = let (child, is, there) = through_child nodes parent above path.1 top later in (child, is, inr there)
 
-not_less_turned : (a b : Node) → tree_cmp a b ≡ Less → tree_cmp b a ≡ Less → ⊥
+pub not_less_turned : (a b : Node) → tree_cmp a b ≡ Less → tree_cmp b a ≡ Less → ⊥
 not_less_turned a b one two = by (tree_cmp a b) (tree_cmp b a) ((lists_total nat_cmp_total).antisymm (reverse a.path) (reverse b.path)) one two
   where
     by : (r s : Ordering) → r ≡ ordering_reverse s → r ≡ Less → s ≡ Less → ⊥
@@ -42,7 +42,7 @@ not_less_turned a b one two = by (tree_cmp a b) (tree_cmp b a) ((lists_total nat
     by Equal s e p q = cc
     by Greater s e p q = cc
 
-not_before_itself : (a : Node) → tree_cmp a a ≡ Less → ⊥
+pub not_before_itself : (a : Node) → tree_cmp a a ≡ Less → ⊥
 not_before_itself a e = let tie = tied_itself (lists_total nat_cmp_total) (reverse a.path) in let bad : ⊥ = cc in bad
 
 module _ (setting : Setting) (board : Board) (facts : IsBoard setting board) where

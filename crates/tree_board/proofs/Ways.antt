@@ -14,6 +14,7 @@ use Rattle.tree_board.specs.declared.event.Event.{Event}
 use Rattle.tree_board.specs.Boards.{Board}
 use Rattle.tree_board.specs.Cells.{parent_of}
 use Rattle.tree_board.specs.Facts.{HasChildren, IsBoard, IsPath}
+use Rattle.tree_board.specs.declared.tally.Tally.{Tally}
 use Rattle.tree_board.specs.Keeping.{IsKeeping}
 use Rattle.tree_board.specs.Nodes.{Node}
 use Rattle.tree_board.specs.Paths.{literal_by}
@@ -113,15 +114,15 @@ origin setting board facts number here at = let own = facts.each number here at 
           gives = gives;
         }))
 
-module _ (search : Search) (cells : List Cell) (closures : List Closure) (lemmas : List Pair) (lemma_nodes : List ℕ) (extends : ℕ) (keeping : IsKeeping search cells closures lemmas lemma_nodes extends) where
+module _ (search : Search) (cells : List Cell) (closures : List Closure) (lemmas : List Pair) (lemma_nodes : List ℕ) (tally : Tally) (keeping : IsKeeping search cells closures lemmas lemma_nodes tally) where
   pub literal_is : (number : ℕ) (here : Node) → slice_get (board_of search).nodes number ≡ Some here
       → option_and_then (λ (cell : Cell). literal_from cells search.journal number cell.parent) (slice_get cells number) ≡ literal_by (board_of search).nodes number (parent_of here.path)
   literal_is number here at =
       let (cell, is, stands) = cell_at search.journal closures (board_of search).kept 0 cells (board_of search).nodes keeping.stand.nodes number here at in
       ap (option_and_then (λ (cell : Cell). literal_from cells search.journal number cell.parent)) is
       ∙ (ap₂ (λ (f : Option ℕ) (i : Option Inst). option_and_then (λ first. option_and_then (λ (inst : Inst). case_in inst first number) i) f)
-      (first_child_kept search cells closures lemmas lemma_nodes extends keeping cell.parent)
-      (instance_kept search cells closures lemmas lemma_nodes extends keeping cell.parent)
+      (first_child_kept search cells closures lemmas lemma_nodes tally keeping cell.parent)
+      (instance_kept search cells closures lemmas lemma_nodes tally keeping cell.parent)
       ∙ ap (literal_by (board_of search).nodes number) stands.parent)
 
   pub parent_is : (number : ℕ) (here : Node) → slice_get (board_of search).nodes number ≡ Some here → option_map (λ (cell : Cell). cell.parent) (slice_get cells number) ≡ Some (parent_of here.path)
@@ -132,7 +133,7 @@ module _ (search : Search) (cells : List Cell) (closures : List Closure) (lemmas
   -- a step up
   pub way_goes : (start number : ℕ) (back : List Lit) → IsOnWay (board_of search).nodes start number back → (lit : Lit) → Some lit ≡ literal_in cells search.journal number → (next : ℕ) → option_map (λ (cell : Cell). cell.parent) (slice_get cells number) ≡ Some next
       → IsOnWay (board_of search).nodes start next (back ++ lit ∷ []) × (next < number)
-  way_goes start number back way lit given next parent = by (origin (setting_of search) (board_of search) (board_kept search cells closures lemmas lemma_nodes extends keeping) number way.here way.is)
+  way_goes start number back way lit given next parent = by (origin (setting_of search) (board_of search) (board_kept search cells closures lemmas lemma_nodes tally keeping) number way.here way.is)
     where
       by : ((number ≡ 0) × (way.here.lits ≡ [])) ⊎ ComesFrom (board_of search).nodes number (parent_of way.here.path) way.here → IsOnWay (board_of search).nodes start next (back ++ lit ∷ []) × (next < number)
       by (inl root) =
@@ -154,7 +155,7 @@ module _ (search : Search) (cells : List Cell) (closures : List Closure) (lemmas
 
   -- the end, at the root
   pub way_ends : (start number : ℕ) (back : List Lit) → IsOnWay (board_of search).nodes start number back → None ≡ literal_in cells search.journal number → lits_of (board_of search).nodes start ≡ Some (reverse back)
-  way_ends start number back way given = by (origin (setting_of search) (board_of search) (board_kept search cells closures lemmas lemma_nodes extends keeping) number way.here way.is)
+  way_ends start number back way given = by (origin (setting_of search) (board_of search) (board_kept search cells closures lemmas lemma_nodes tally keeping) number way.here way.is)
     where
       by : ((number ≡ 0) × (way.here.lits ≡ [])) ⊎ ComesFrom (board_of search).nodes number (parent_of way.here.path) way.here → lits_of (board_of search).nodes start ≡ Some (reverse back)
       by (inl root) = way.lits ∙ ap (λ held. Some (held ++ reverse back)) root.1
@@ -168,10 +169,10 @@ module _ (search : Search) (cells : List Cell) (closures : List Closure) (lemmas
 
 -- ---- the same of slices that show the fields, and of the search that callers see
 
-module _ (search value : Search) (same : search ≡ value) (cells seen_cells : List Cell) (closures : List Closure) (lemmas : List Pair) (lemma_nodes : List ℕ) (extends : ℕ) (keeping : IsKeeping search cells closures lemmas lemma_nodes extends)
+module _ (search value : Search) (same : search ≡ value) (cells seen_cells : List Cell) (closures : List Closure) (lemmas : List Pair) (lemma_nodes : List ℕ) (tally : Tally) (keeping : IsKeeping search cells closures lemmas lemma_nodes tally)
     (seen_journal : List Event) (cells_are : seen_cells ≡ cells) (journal_is : seen_journal ≡ search.journal) where
-  kept_now : IsKeeping value cells closures lemmas lemma_nodes extends
-  kept_now = subst (λ one. IsKeeping one cells closures lemmas lemma_nodes extends) same keeping
+  kept_now : IsKeeping value cells closures lemmas lemma_nodes tally
+  kept_now = subst (λ one. IsKeeping one cells closures lemmas lemma_nodes tally) same keeping
 
   literal_seen : (number : ℕ) → literal_in seen_cells seen_journal number ≡ literal_in cells value.journal number
   literal_seen number = ap₂ (λ (cs : List Cell) (js : List Event). literal_in cs js number) cells_are (journal_is ∙ ap (λ (one : Search). one.journal) same)
@@ -179,15 +180,15 @@ module _ (search value : Search) (same : search ≡ value) (cells seen_cells : L
   pub seen_within : (start number : ℕ) (back : List Lit) → IsOnWay (board_of value).nodes start number back → number < length seen_cells
   seen_within start number back way =
       let small = way_within (board_of value).nodes start number back way in
-      let sizes = nodes_kept value cells closures lemmas lemma_nodes extends kept_now in
+      let sizes = nodes_kept value cells closures lemmas lemma_nodes tally kept_now in
       let shown_size = ap length cells_are in
       omega (arith, small, sizes, shown_size)
 
   pub seen_goes : (start number : ℕ) (back : List Lit) → IsOnWay (board_of value).nodes start number back → (lit : Lit) → Some lit ≡ literal_in seen_cells seen_journal number → (next : ℕ) → option_map (λ (cell : Cell). cell.parent) (slice_get seen_cells number) ≡ Some next
       → (copy : Lit) → copy ≡ lit → (pushed : List Lit) → pushed ≡ back ++ copy ∷ [] → IsOnWay (board_of value).nodes start next pushed × (next < number)
   seen_goes start number back way lit given next parent copy copy_is pushed pushed_is =
-      let goes = way_goes value cells closures lemmas lemma_nodes extends kept_now start number back way lit (given ∙ literal_seen number) next (ap (λ (cs : List Cell). option_map (λ (cell : Cell). cell.parent) (slice_get cs number)) (sym cells_are) ∙ parent) in
+      let goes = way_goes value cells closures lemmas lemma_nodes tally kept_now start number back way lit (given ∙ literal_seen number) next (ap (λ (cs : List Cell). option_map (λ (cell : Cell). cell.parent) (slice_get cs number)) (sym cells_are) ∙ parent) in
       (subst (IsOnWay (board_of value).nodes start next) (sym (pushed_is ∙ ap (λ one. back ++ one ∷ []) copy_is)) goes.0, goes.1)
 
   pub seen_ends : (start number : ℕ) (back : List Lit) → IsOnWay (board_of value).nodes start number back → None ≡ literal_in seen_cells seen_journal number → (turned : List Lit) → turned ≡ reverse back → lits_of (board_of value).nodes start ≡ Some turned
-  seen_ends start number back way given turned turned_is = way_ends value cells closures lemmas lemma_nodes extends kept_now start number back way (given ∙ literal_seen number) ∙ ap Some (sym turned_is)
+  seen_ends start number back way given turned turned_is = way_ends value cells closures lemmas lemma_nodes tally kept_now start number back way (given ∙ literal_seen number) ∙ ap Some (sym turned_is)

@@ -26,6 +26,7 @@ pub mod Settling
 pub mod Splits
 pub mod Standing
 pub mod Stuck
+pub mod Tallies
 pub mod TreeOrder
 pub mod Turns
 pub mod WorkerLaws

@@ -1,8 +1,8 @@
 -- The first open node after another in tree order.
-use Rattle.std.specs.Prelude.{ℕ, Bool, None, Option, Some, false, nat_lt, slice_get, true, ◌<◌, ◌≡◌, ◌≢◌}
-use Rattle.std.specs.Ordering.{is_lt}
+use Rattle.std.specs.Prelude.{ℕ, None, Option, Some, slice_get, ◌≡◌, ◌≢◌}
 use Rattle.std.specs.declared.cmp.Ordering.TheVariants.{Less}
 use Rattle.tree_board.specs.Boards.{Board}
+use Rattle.tree_board.specs.Facts.{IsAmong}
 use Rattle.tree_board.specs.NodeStates.{Open}
 use Rattle.tree_board.specs.Nodes.{Node}
 use Rattle.tree_board.specs.TreeOrder.{tree_cmp}
@@ -18,16 +18,6 @@ pub record IsOpenAfter (board : Board) (after : Option ℕ) (number : ℕ) (node
   pub opened : node.state ≡ Open
   pub later : ComesAfter board after node
 
--- of the nodes with numbers below the limit, the first open one that comes after it
-pub record IsNextBelow (board : Board) (limit : ℕ) (after : Option ℕ) (number : ℕ) : Type 0 where
-  pub node : Node
-  pub there : IsOpenAfter board after number node
-  pub first : (k : ℕ) (other : Node) → k < limit → IsOpenAfter board after k other → tree_cmp other node ≢ Less
-
-abbrev pub AnswersBelow : Board → ℕ → Option ℕ → Option ℕ → Type 0
-AnswersBelow board limit after None = (k : ℕ) (node : Node) → k < limit → IsOpenAfter board after k node → ⊥
-AnswersBelow board limit after (Some number) = IsNextBelow board limit after number
-
 -- the first open node in tree order that comes after it
 pub record IsNextOpen (board : Board) (after : Option ℕ) (number : ℕ) : Type 0 where
   pub node : Node
@@ -39,15 +29,30 @@ abbrev pub AnswersNext : Board → Option ℕ → Option ℕ → Type 0
 AnswersNext board after None = (k : ℕ) (node : Node) → IsOpenAfter board after k node → ⊥
 AnswersNext board after (Some number) = IsNextOpen board after number
 
--- ---- parts
+-- ---- steps of the walk
 
--- whether the first of two nodes stands before the second, by the children that the ways up to the first node above both have left last
-abbrev pub comes_first : Option ℕ → Option ℕ → Bool
-comes_first None None = false
-comes_first None (Some right) = true
-comes_first (Some left) None = false
-comes_first (Some left) (Some right) = nat_lt left right
+-- of the nodes that come after that one and not below it, the first in tree order
+pub record IsBehind (board : Board) (number next : ℕ) : Type 0 where
+  pub node : Node
+  pub is : slice_get board.nodes number ≡ Some node
+  pub other : Node
+  pub there : slice_get board.nodes next ≡ Some other
+  pub later : tree_cmp node other ≡ Less
+  pub first : (k : ℕ) (one : Node) → slice_get board.nodes k ≡ Some one → tree_cmp node one ≡ Less → tree_cmp one other ≡ Less → IsAmong one.path number
 
--- the answer tells whether the first node stands before the second
-abbrev pub Compares : Board → ℕ → ℕ → Bool → Type 0
-Compares board one two answer = (a b : Node) → slice_get board.nodes one ≡ Some a → slice_get board.nodes two ≡ Some b → answer ≡ is_lt (tree_cmp a b)
+-- the answer to who asks for it: none where all that come after are below
+abbrev pub GoesBehind : Board → ℕ → Option ℕ → Type 0
+GoesBehind board number None = (k : ℕ) (node one : Node) → slice_get board.nodes number ≡ Some node → slice_get board.nodes k ≡ Some one → tree_cmp node one ≡ Less → IsAmong one.path number
+GoesBehind board number (Some next) = IsBehind board number next
+
+-- the node comes after it, and no open node that does stands before the node
+pub record IsOnTheWay (board : Board) (after : Option ℕ) (number : ℕ) : Type 0 where
+  pub node : Node
+  pub is : slice_get board.nodes number ≡ Some node
+  pub later : ComesAfter board after node
+  pub first : (k : ℕ) (other : Node) → IsOpenAfter board after k other → tree_cmp other node ≢ Less
+
+-- where the walk goes on: nowhere where no open node comes after it
+abbrev pub GoesOn : Board → Option ℕ → Option ℕ → Type 0
+GoesOn board after None = AnswersNext board after None
+GoesOn board after (Some number) = IsOnTheWay board after number

@@ -1,6 +1,6 @@
 -- What a node shows to callers, and what a cell shows of it.
 use Rattle.std.specs.List.{position}
-use Rattle.std.specs.Prelude.{ℕ, suc, ◌-◌, nat_eq, nat_lt, cond, Bool, true, false, List, Option, Some, None, option_map, option_and_then, slice_get}
+use Rattle.std.specs.Prelude.{ℕ, suc, ◌+◌, ◌-◌, nat_eq, nat_lt, cond, Bool, true, false, List, Option, Some, None, option_map, option_and_then, slice_get}
 use Rattle.mg_word.specs.Words.{numbered}
 use Rattle.mg_word.specs.declared.form.Inst.{Inst}
 use Rattle.mg_word.specs.declared.lit.Lit.{Lit}
@@ -157,3 +157,7 @@ literal_from cells journal number parent = option_and_then (λ first. option_and
 -- the literal of the node with this number; the root has none
 abbrev pub literal_in : List Cell → List Event → ℕ → Option Lit
 literal_in cells journal number = cond (nat_eq number 0) None (option_and_then (λ (cell : Cell). literal_from cells journal number cell.parent) (slice_get cells number))
+
+-- the number after that one, where its cell has the same parent
+abbrev pub sibling_in : List Cell → ℕ → Option ℕ
+sibling_in cells number = option_and_then (λ (other : Cell). option_and_then (λ (one : Cell). cond (nat_eq other.parent one.parent) (Some (number + 1)) None) (slice_get cells number)) (slice_get cells (number + 1))

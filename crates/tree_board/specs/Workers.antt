@@ -1,5 +1,5 @@
 -- One worker under way.
-use Rattle.std.specs.Prelude.{ℕ, suc, Bool, List, None, Option, Some, [], false, slice_get, true, ◌++◌, ◌≡◌, ◌≢◌, ◌∷◌, ◌≤◌, ◌⊎◌}
+use Rattle.std.specs.Prelude.{ℕ, suc, Bool, List, None, Option, Some, [], cond, false, not, slice_get, true, ◌&&◌, ◌++◌, ◌≡◌, ◌≢◌, ◌∷◌, ◌≤◌, ◌⊎◌}
 use Rattle.mg_word.specs.Facts.{IsProblem}
 use Rattle.mg_word.specs.declared.form.Inst.{Inst}
 use Rattle.mg_word.specs.declared.lit.Lit.{Lit}
@@ -14,6 +14,7 @@ use Rattle.tree_board.specs.declared.mode.Mode.{Mode}
 use Rattle.tree_board.specs.declared.mode.Mode.TheVariants.{List as ListAll, Refute}
 use Rattle.tree_board.specs.Alone.{MayGoOn}
 use Rattle.tree_board.specs.Boards.{Board, count}
+use Rattle.tree_board.specs.Claims.{event_found}
 use Rattle.tree_board.specs.Effects.{effect}
 use Rattle.tree_board.specs.Events.{node_of}
 use Rattle.tree_board.specs.Facts.{IsAmong}
@@ -96,13 +97,15 @@ finds_model Refute (ByLemma number lemma) = false
 finds_model Refute (CoveredBy number by) = false
 finds_model Refute (TooHeavy number inst) = false
 
+abbrev pub is_extension : Finding → Bool
+is_extension (ExtendBy inst) = true
+is_extension (RejectBy inst) = false
+is_extension NoneFound = false
+is_extension (HeavyBy inst) = false
+
 -- the event by which what was found settles the node with this number; an extension only where there is room for it
 abbrev pub event_for : Finding → ℕ → Bool → Option Event
-event_for (ExtendBy inst) number true = Some (Extend number inst)
-event_for (ExtendBy inst) number false = None
-event_for (RejectBy inst) number has_room = Some (Reject number inst)
-event_for NoneFound number has_room = Some (Saturated number)
-event_for (HeavyBy inst) number has_room = Some (TooHeavy number inst)
+event_for found number has_room = cond (is_extension found && not has_room) None (Some (event_found number found))
 
 -- so many numbers from the first
 abbrev pub numbers_after : ℕ → List Lit → List ℕ

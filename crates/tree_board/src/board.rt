@@ -14,7 +14,8 @@ use crate::cell::{
     self, Cell, Settled, first_child_at, instance_at, kind_at, lemma_at, literal_at, own_lemma_at,
     parent_at,
 };
-use crate::standing::standing;
+use crate::standing::{is_root_closed, standing};
+use crate::tally::Tally;
 use crate::{BoardState, Event, Limits, Mode, NodeKind};
 use branch_lemmas::{Lemma, LemmaIndex};
 use case_split::Closure;
@@ -40,7 +41,7 @@ pub struct Board {
     pub(crate) closures: Vec<Closure>,
     pub(crate) lemmas: LemmaIndex,
     pub(crate) lemma_nodes: Vec<u32>,
-    pub(crate) count: u32,
+    pub(crate) tally: Tally,
 }
 
 impl Model for Board {
@@ -53,7 +54,7 @@ impl Model for Board {
 
     ghost use Rattle.tree_board.specs.Keeping.{IsKeeping};
 
-    ghost invariant = { λ board. IsKeeping (record { problem = arc_value board.problem; mode = board.mode; limits = board.limits; journal = board.journal.items }) board.cells.items board.closures.items board.lemmas board.lemma_nodes.items board.count };
+    ghost invariant = { λ board. IsKeeping (record { problem = arc_value board.problem; mode = board.mode; limits = board.limits; journal = board.journal.items }) board.cells.items board.closures.items board.lemmas board.lemma_nodes.items board.tally };
 }
 
 // The number at that place, counted from 1.
@@ -98,7 +99,12 @@ impl Board {
             closures: Vec::new(alloc),
             lemmas: LemmaIndex::new(alloc)?,
             lemma_nodes: Vec::new(alloc),
-            count: 0,
+            tally: Tally {
+                extensions: 0,
+                opens: 1,
+                has_heavy: false,
+                least_found: None,
+            },
         })
     }
 
@@ -137,7 +143,7 @@ impl Board {
     pub fn count(&self) -> u32
         ensures { result ≡ count (board_of self.now) }
     {
-        self.count
+        self.tally.extensions
     }
 
     /// The number of nodes.
@@ -151,11 +157,9 @@ impl Board {
     pub fn state(&self) -> BoardState
         ensures { result ≡ state_of (setting_of self.now) (board_of self.now) }
     {
-        standing(
-            self.cells.as_slice(),
-            self.mode,
-            self.limits.budget <= self.count,
-        )
+        let is_closed = is_root_closed(self.cells.as_slice());
+        let is_spent = self.limits.budget <= self.tally.extensions;
+        standing(is_closed, self.tally, self.mode, is_spent)
     }
 
     /// How the node with this number stands, if there is one.

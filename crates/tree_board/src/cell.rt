@@ -1,9 +1,9 @@
 //! What the board keeps of each node: no literals, which the events of the nodes above give.
 
-ghost use Rattle.std.specs.Prelude.{◌≡◌, ◌<◌, Some, length, option_map, option_and_then, slice_get};
+ghost use Rattle.std.specs.Prelude.{◌≡◌, ◌<◌, ◌^◌, Some, length, option_map, option_and_then, slice_get};
 ghost use Rattle.std.specs.Option.{option_copied};
-ghost use Rattle.tree_board.specs.Readers.{event_of_cell, first_child_of_cell, lemma_of_cell, closure_of_cell, kind_of_cell, cell_shows, instance_shown, case_in, literal_in};
-ghost use Rattle.tree_board.specs.CellStanding.{is_open_yet, is_found_set, is_too_heavy};
+ghost use Rattle.tree_board.specs.Readers.{event_of_cell, first_child_of_cell, lemma_of_cell, closure_of_cell, kind_of_cell, cell_shows, instance_shown, case_in, literal_in, sibling_in};
+ghost use Rattle.tree_board.specs.CellStanding.{is_open_yet, is_found_set};
 
 use crate::{Event, NodeKind};
 use branch_lemmas::Lemma;
@@ -47,12 +47,6 @@ impl Settled {
         ensures { result ≡ is_found_set self }
     {
         matches!(self, Settled::Found)
-    }
-
-    pub fn is_heavy(self) -> bool
-        ensures { result ≡ is_too_heavy self }
-    {
-        matches!(self, Settled::Heavy { .. })
     }
 
     /// The place in the journal of the event that has the node's instance.
@@ -188,4 +182,18 @@ pub fn literal_at<'a>(cells: &[Cell], journal: &'a [Event], node: u32) -> Option
     let first = first_child_at(cells, parent)?;
     let inst = instance_at(cells, journal, parent)?;
     case_at(inst, first, node)
+}
+
+/// The number of the next sibling of the node with this number: the next node, if it has the same parent.
+pub fn sibling_at(cells: &[Cell], node: u32) -> Option<u32>
+    requires there { node < length cells.now }
+    requires size { length cells.now < 2 ^ 32 }
+    ensures { result ≡ sibling_in cells.now node }
+{
+    let next = node + 1;
+    let sibling = cells.get(next as usize)?;
+    if sibling.parent != cells[node as usize].parent {
+        return None;
+    }
+    Some(next)
 }

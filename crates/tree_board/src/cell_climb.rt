@@ -22,8 +22,8 @@ pub fn copied(lemma: &Lemma) -> Result<Lemma, NoMemory>
     })
 }
 
-// The number of the first child of the node with this number, if it is split and not closed.
-fn unclosed_first(cells: &[Cell], node: u32) -> Option<u32>
+/// The number of the first child of the node with this number, if it is split and not closed.
+pub fn unclosed_first(cells: &[Cell], node: u32) -> Option<u32>
     ensures { result ≡ option_and_then unclosed_first (slice_get cells.now node) }
 {
     let cell = cells.get(node as usize)?;

@@ -1,6 +1,6 @@
 //! An event's move, of the cells.
 
-ghost use Rattle.std.specs.Prelude.{◌≡◌, ◌∷◌, ◌++◌, ◌+◌, ◌<◌, ◌^◌, [], IfOk, OnOk, Some, length, slice_get, slice_set};
+ghost use Rattle.std.specs.Prelude.{◌≡◌, ◌∷◌, ◌++◌, ◌+◌, ◌-◌, ◌<◌, ◌≤◌, ◌^◌, [], IfOk, OnOk, Some, length, slice_get, slice_set};
 ghost use Rattle.tree_board.specs.CellMoves.{settled_as, settled_cell, born_cell, cells_by, with_closure, closures_by};
 
 use crate::Event;
@@ -96,6 +96,17 @@ fn push_reason(closures: &mut Vec<Closure>, at_once: Option<Closure>) -> Result<
 pub struct Children {
     pub cells: Vec<Cell>,
     pub closures: Vec<Closure>,
+}
+
+impl Children {
+    /// The number of those that are open: the others have a reason each.
+    pub fn opens(&self) -> u32
+        requires reasons { length self.now.closures.items ≤ length self.now.cells.items }
+        requires size { length self.now.cells.items < 2 ^ 32 }
+        ensures { result ≡ length self.now.cells.items - length self.now.closures.items }
+    {
+        (self.cells.len() - self.closures.len()) as u32
+    }
 }
 
 /// The cells of children that are closed at once for these reasons, which go to places from there on.

@@ -71,8 +71,8 @@ fn are_same(these: &[Lit], those: &[Lit]) -> bool
     lits_cmp(these, those).is_eq()
 }
 
-// The event by which what was found settles the node.
-fn event_found(node: u32, found: Found) -> Event
+/// The event by which what was found settles the node.
+pub fn event_found(node: u32, found: Found) -> Event
     ensures { result ≡ event_found node found }
 {
     match found {
@@ -169,7 +169,7 @@ impl Board {
         ensures room { result ≡ false → IsExtension found.now → count (board_of self.now) < self.now.limits.budget }
     {
         match found {
-            Found::Extend(_) => self.limits.budget <= self.count,
+            Found::Extend(_) => self.limits.budget <= self.tally.extensions,
             _ => false,
         }
     }

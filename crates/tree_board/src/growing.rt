@@ -73,7 +73,7 @@ impl Board {
         let lemma = self.lemma_made(alloc, &event)?;
         let children = born(alloc, node, self.closures.len() as u32, reasons)?;
         let settled = settled_as(&event, self.journal.len() as u32, self.cells.len() as u32);
-        let added = event.extensions();
+        let tally = self.tally.after(&event, children.opens());
         self.journal.push(event)?;
         let change = Change {
             node,
@@ -94,7 +94,7 @@ impl Board {
             let _ = self.journal.pop();
             return Err(NoMemory);
         }
-        self.count += added;
+        self.tally = tally;
         Ok(())
     }
 

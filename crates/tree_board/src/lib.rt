@@ -20,6 +20,7 @@ mod node;
 mod path;
 mod quick;
 mod standing;
+mod tally;
 
 pub use alone::finish_alone;
 pub use board::{Board, MOST_BUDGET, MOST_WEIGHT};

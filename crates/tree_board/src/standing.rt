@@ -1,9 +1,12 @@
-//! How a board stands, by its cells.
+//! How a board stands, by its tally.
 
-ghost use Rattle.std.specs.Prelude.{◌≡◌, ◌<◌, ◌^◌, IfSome, length};
-ghost use Rattle.tree_board.specs.CellStanding.{is_root_closed, first_found_in, model_in, some_open_in, some_heavy_in, standing_in};
+ghost use Rattle.std.specs.Prelude.{◌≡◌, nat_lt};
+ghost use Rattle.tree_board.specs.CellStanding.{is_root_closed};
+ghost use Rattle.tree_board.specs.Standing.{standing_by};
+ghost use Rattle.tree_board.specs.Tallies.{model_in};
 
 use crate::cell::Cell;
+use crate::tally::Tally;
 use crate::{BoardState, Limit, Mode};
 
 pub fn is_root_closed(cells: &[Cell]) -> bool
@@ -15,60 +18,30 @@ pub fn is_root_closed(cells: &[Cell]) -> bool
     }
 }
 
-// The index of the first found node.
-fn found_index(cells: &[Cell]) -> Option<usize>
-    ensures within { IfSome result (λ index. index < length cells.now) }
-    ensures first { result ≡ first_found_in cells.now }
-{
-    cells.iter().position(|cell| cell.settled.is_found())
-}
-
-fn first_found(cells: &[Cell]) -> Option<u32>
-    requires { length cells.now < 2 ^ 32 }
-    ensures { result ≡ first_found_in cells.now }
-{
-    let index = found_index(cells)?;
-    Some(index as u32)
-}
-
-// In mode Refute, the first found node.
-fn model(cells: &[Cell], mode: Mode) -> Option<u32>
-    requires { length cells.now < 2 ^ 32 }
-    ensures { result ≡ model_in mode cells.now }
+// In mode Refute, the least found node.
+fn model(mode: Mode, least_found: Option<u32>) -> Option<u32>
+    ensures { result ≡ model_in mode least_found }
 {
     match mode {
-        Mode::Refute => first_found(cells),
+        Mode::Refute => least_found,
         Mode::List => None,
     }
 }
 
-fn some_open(cells: &[Cell]) -> bool
-    ensures { result ≡ some_open_in cells.now }
+/// How a board with this tally stands, by whether its root is closed and its budget spent.
+pub fn standing(is_closed: bool, tally: Tally, mode: Mode, is_spent: bool) -> BoardState
+    ensures { result ≡ standing_by is_closed (model_in mode tally.least_found) (nat_lt 0 tally.opens) is_spent tally.has_heavy }
 {
-    cells.iter().any(|cell| cell.settled.is_open())
-}
-
-fn some_heavy(cells: &[Cell]) -> bool
-    ensures { result ≡ some_heavy_in cells.now }
-{
-    cells.iter().any(|cell| cell.settled.is_heavy())
-}
-
-/// How the board of these cells stands.
-pub fn standing(cells: &[Cell], mode: Mode, is_spent: bool) -> BoardState
-    requires { length cells.now < 2 ^ 32 }
-    ensures { result ≡ standing_in mode cells.now is_spent }
-{
-    if is_root_closed(cells) {
+    if is_closed {
         return BoardState::Closed;
     }
-    if let Some(node) = model(cells, mode) {
+    if let Some(node) = model(mode, tally.least_found) {
         return BoardState::Model(node);
     }
-    match (some_open(cells), is_spent) {
+    match (tally.opens > 0, is_spent) {
         (true, true) => BoardState::Blocked(Limit::Budget),
         (true, false) => BoardState::Running,
-        (false, _) if some_heavy(cells) => BoardState::Blocked(Limit::Weight),
+        (false, _) if tally.has_heavy => BoardState::Blocked(Limit::Weight),
         (false, _) => BoardState::Complete,
     }
 }

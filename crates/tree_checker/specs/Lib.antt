@@ -9,6 +9,5 @@ pub mod Laws
 pub mod Openings
 pub mod Indices
 pub mod LitTables
-pub mod Samples
 pub mod Trees
 pub mod Walks

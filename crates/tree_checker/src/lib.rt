@@ -10,8 +10,6 @@ mod laws;
 mod line;
 mod lit_table;
 mod lits;
-#[cfg(test)]
-mod tests;
 mod trail;
 mod walk;
 

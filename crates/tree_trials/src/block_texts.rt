@@ -1,33 +1,10 @@
 //! Texts by hand of documents with blocks, each with the answer that the format and the checker's rules give it.
 
-use mg_word::Problem;
+use crate::outcome::{Outcome, judged};
 use proof_tree::{read_doc, write_doc};
 use small_problems::problem_of;
-use std::alloc::Global;
 use std::test::Fail;
-use tree_checker::{DocFault, DocKind, Reject, Why, check_doc};
-
-// What comes of the text of a tree.
-#[derive(Clone, Copy, Debug, PartialEq, Eq)]
-enum Outcome {
-    Accepted,
-    Rejected(u64, Why),
-    Unread(u64, DocKind),
-    NoMemory,
-}
-
-fn judged(alloc: Global, bytes: &[u8], problem: &Problem) -> Outcome {
-    let doc = match read_doc(alloc, bytes, problem) {
-        Ok(doc) => doc,
-        Err(DocFault::Line { line, kind }) => return Outcome::Unread(line, kind),
-        Err(DocFault::NoMemory) => return Outcome::NoMemory,
-    };
-    match check_doc(alloc, problem, &doc) {
-        Ok(()) => Outcome::Accepted,
-        Err(Reject::Line { line, why }) => Outcome::Rejected(line, why),
-        Err(Reject::NoMemory) => Outcome::NoMemory,
-    }
-}
+use tree_checker::{DocKind, Why};
 
 // `a` or `b`, and in both cases the same contradiction: its tree is written once.
 const TWICE: &str = "cnf(c1,axiom,a|b). cnf(c2,axiom,c|d). cnf(c3,axiom,~c). cnf(c4,axiom,~d).";
@@ -60,113 +37,115 @@ fn documents_with_blocks_are_accepted(rt: HostRuntime) -> Result<(), Fail> {
 }
 
 // What follows the header of a text over the second problem, with its answer.
+static BLOCKS: [(&str, Outcome); 30] = [
+    ("lemma 2\n", Outcome::Unread(2, DocKind::Block)),
+    ("lemma 0\n", Outcome::Unread(2, DocKind::Block)),
+    ("lemma 01\n", Outcome::Unread(2, DocKind::Syntax)),
+    ("lemma 4294967296\n", Outcome::Unread(2, DocKind::Syntax)),
+    ("lemma 1\n", Outcome::Unread(3, DocKind::Early)),
+    ("lemma 1\nroot\n", Outcome::Unread(3, DocKind::Syntax)),
+    ("lemma 1\noutside []\n", Outcome::Unread(3, DocKind::Syntax)),
+    (
+        "lemma 1\ninside [a, b]\n",
+        Outcome::Unread(3, DocKind::Syntax),
+    ),
+    (
+        "lemma 1\ninside [a,]\n",
+        Outcome::Unread(3, DocKind::Syntax),
+    ),
+    (
+        "lemma 1\ninside [~~a]\n",
+        Outcome::Unread(3, DocKind::Syntax),
+    ),
+    (
+        "lemma 1\ninside [b,a]\n",
+        Outcome::Unread(3, DocKind::Order),
+    ),
+    (
+        "lemma 1\ninside [a,a]\n",
+        Outcome::Unread(3, DocKind::Order),
+    ),
+    (
+        "lemma 1\ninside [~a,a]\n",
+        Outcome::Unread(3, DocKind::Order),
+    ),
+    (
+        "lemma 1\ninside [b,z,a]\n",
+        Outcome::Unread(3, DocKind::Unknown),
+    ),
+    (
+        "lemma 1\ninside [a,~a]\n",
+        Outcome::Unread(4, DocKind::Early),
+    ),
+    (
+        "lemma 1\ninside []\noutside [y,x]\n",
+        Outcome::Unread(4, DocKind::Order),
+    ),
+    (
+        "lemma 1\ninside []\noutside []\nroot\n",
+        Outcome::Unread(5, DocKind::Syntax),
+    ),
+    (
+        "lemma 1\ninside []\noutside []\nform 6 []\n",
+        Outcome::Unread(5, DocKind::FormNumber),
+    ),
+    (
+        "lemma 1\ninside []\noutside []\nbarred z\n",
+        Outcome::Unread(5, DocKind::Unknown),
+    ),
+    (
+        "lemma 1\ninside []\noutside []\nclash a,b\n",
+        Outcome::Unread(5, DocKind::Syntax),
+    ),
+    (
+        "lemma 1\ninside []\noutside []\nby 1\nlemma 1\n",
+        Outcome::Unread(6, DocKind::Block),
+    ),
+    (
+        "lemma 1\ninside []\noutside []\nby 1\nby 1\n",
+        Outcome::Unread(6, DocKind::Syntax),
+    ),
+    (
+        "lemma 1\ninside []\noutside []\nby 1\nroot\nlemma 2\n",
+        Outcome::Unread(7, DocKind::Syntax),
+    ),
+    (
+        "lemma 1\ninside []\noutside []\nby 1\nroot\nform 5 []\nlemma 2\n",
+        Outcome::Unread(8, DocKind::Rest),
+    ),
+    (
+        "lemma 1\ninside []\noutside []\nby 1\nroot\nform 5 []\n",
+        Outcome::Rejected(5, Why::LemmaNumber),
+    ),
+    (
+        "lemma 1\ninside [a,~a]\noutside []\nclash a\nroot\nby 2\n",
+        Outcome::Rejected(7, Why::LemmaNumber),
+    ),
+    (
+        "lemma 1\ninside [a,~a]\noutside []\nclash a\nroot\nby 1\n",
+        Outcome::Rejected(7, Why::LemmaInside),
+    ),
+    (
+        "lemma 1\ninside [a]\noutside []\nclash a\nroot\nby 1\n",
+        Outcome::Rejected(5, Why::NoClash),
+    ),
+    (
+        "lemma 1\ninside [b]\noutside []\nform 4 []\nbarred a\nroot\nby 1\n",
+        Outcome::Rejected(6, Why::NotBarred),
+    ),
+    (
+        "lemma 1\ninside [b]\noutside [a,x]\nform 4 []\nbarred a\nroot\nform 1 []\nform 2 []\nform 5 []\nby 1\nby 1\n",
+        Outcome::Rejected(11, Why::LemmaOutside),
+    ),
+];
+
 #[test]
 fn blocks_have_their_answers(rt: HostRuntime) -> Result<(), Fail> {
     let alloc = rt.alloc();
     let problem = problem_of(alloc, BARRED)?;
-    for (text, want) in [
-        ("lemma 2\n", Outcome::Unread(2, DocKind::Block)),
-        ("lemma 0\n", Outcome::Unread(2, DocKind::Block)),
-        ("lemma 01\n", Outcome::Unread(2, DocKind::Syntax)),
-        ("lemma 4294967296\n", Outcome::Unread(2, DocKind::Syntax)),
-        ("lemma 1\n", Outcome::Unread(3, DocKind::Early)),
-        ("lemma 1\nroot\n", Outcome::Unread(3, DocKind::Syntax)),
-        ("lemma 1\noutside []\n", Outcome::Unread(3, DocKind::Syntax)),
-        (
-            "lemma 1\ninside [a, b]\n",
-            Outcome::Unread(3, DocKind::Syntax),
-        ),
-        (
-            "lemma 1\ninside [a,]\n",
-            Outcome::Unread(3, DocKind::Syntax),
-        ),
-        (
-            "lemma 1\ninside [~~a]\n",
-            Outcome::Unread(3, DocKind::Syntax),
-        ),
-        (
-            "lemma 1\ninside [b,a]\n",
-            Outcome::Unread(3, DocKind::Order),
-        ),
-        (
-            "lemma 1\ninside [a,a]\n",
-            Outcome::Unread(3, DocKind::Order),
-        ),
-        (
-            "lemma 1\ninside [~a,a]\n",
-            Outcome::Unread(3, DocKind::Order),
-        ),
-        (
-            "lemma 1\ninside [b,z,a]\n",
-            Outcome::Unread(3, DocKind::Unknown),
-        ),
-        (
-            "lemma 1\ninside [a,~a]\n",
-            Outcome::Unread(4, DocKind::Early),
-        ),
-        (
-            "lemma 1\ninside []\noutside [y,x]\n",
-            Outcome::Unread(4, DocKind::Order),
-        ),
-        (
-            "lemma 1\ninside []\noutside []\nroot\n",
-            Outcome::Unread(5, DocKind::Syntax),
-        ),
-        (
-            "lemma 1\ninside []\noutside []\nform 6 []\n",
-            Outcome::Unread(5, DocKind::FormNumber),
-        ),
-        (
-            "lemma 1\ninside []\noutside []\nbarred z\n",
-            Outcome::Unread(5, DocKind::Unknown),
-        ),
-        (
-            "lemma 1\ninside []\noutside []\nclash a,b\n",
-            Outcome::Unread(5, DocKind::Syntax),
-        ),
-        (
-            "lemma 1\ninside []\noutside []\nby 1\nlemma 1\n",
-            Outcome::Unread(6, DocKind::Block),
-        ),
-        (
-            "lemma 1\ninside []\noutside []\nby 1\nby 1\n",
-            Outcome::Unread(6, DocKind::Syntax),
-        ),
-        (
-            "lemma 1\ninside []\noutside []\nby 1\nroot\nlemma 2\n",
-            Outcome::Unread(7, DocKind::Syntax),
-        ),
-        (
-            "lemma 1\ninside []\noutside []\nby 1\nroot\nform 5 []\nlemma 2\n",
-            Outcome::Unread(8, DocKind::Rest),
-        ),
-        (
-            "lemma 1\ninside []\noutside []\nby 1\nroot\nform 5 []\n",
-            Outcome::Rejected(5, Why::LemmaNumber),
-        ),
-        (
-            "lemma 1\ninside [a,~a]\noutside []\nclash a\nroot\nby 2\n",
-            Outcome::Rejected(7, Why::LemmaNumber),
-        ),
-        (
-            "lemma 1\ninside [a,~a]\noutside []\nclash a\nroot\nby 1\n",
-            Outcome::Rejected(7, Why::LemmaInside),
-        ),
-        (
-            "lemma 1\ninside [a]\noutside []\nclash a\nroot\nby 1\n",
-            Outcome::Rejected(5, Why::NoClash),
-        ),
-        (
-            "lemma 1\ninside [b]\noutside []\nform 4 []\nbarred a\nroot\nby 1\n",
-            Outcome::Rejected(6, Why::NotBarred),
-        ),
-        (
-            "lemma 1\ninside [b]\noutside [a,x]\nform 4 []\nbarred a\nroot\nform 1 []\nform 2 []\nform 5 []\nby 1\nby 1\n",
-            Outcome::Rejected(11, Why::LemmaOutside),
-        ),
-    ] {
+    for (text, want) in BLOCKS.as_slice() {
         let whole = format!(in alloc; "mgtp tree 1\n%\n{text}%")?;
-        assert_eq!(rt; judged(alloc, whole.as_bytes(), &problem), want, "{text}");
+        assert_eq!(rt; judged(alloc, whole.as_bytes(), &problem), *want, "{text}");
     }
     Ok(())
 }

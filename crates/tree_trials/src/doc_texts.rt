@@ -31,103 +31,105 @@ fn found(alloc: Global, bytes: &[u8], problem: &Problem) -> Outcome {
 
 const WHOLE: &str = "mgtp tree 1\nroot\nform 1 []\nform 2 [a]\nform 3 []\n";
 
+static TEXTS: [(&str, Outcome); 27] = [
+    (WHOLE, Outcome::Lines(3)),
+    (
+        "%x\nmgtp tree 1\n%\nroot\nform 1 []\nform 2 [a]\n% form 9\nform 3 []\n%end",
+        Outcome::Lines(3),
+    ),
+    (
+        "mgtp tree 1\nroot\nform 3 ['P q'(\"x\",12)]\n",
+        Outcome::Lines(1),
+    ),
+    ("mgtp tree 1\nroot\nform 3 [p(p(a)),a]\n", Outcome::Lines(1)),
+    ("", Outcome::Fault(1, DocKind::Early)),
+    (
+        "mgtp tree 1\nroot\nform 1 []\nform 2 [a]\n",
+        Outcome::Fault(5, DocKind::Early),
+    ),
+    ("mgtp tree 3\nroot\n", Outcome::Fault(1, DocKind::Header)),
+    ("mgtp tree 1\nroots\n", Outcome::Fault(2, DocKind::Syntax)),
+    ("mgtp tree 1\nlemma 1\n", Outcome::Fault(3, DocKind::Early)),
+    (
+        "mgtp tree 1\nroot\nform 1 []\nform 2 [b]\n",
+        Outcome::Fault(4, DocKind::Unknown),
+    ),
+    (
+        "mgtp tree 1\nroot\nform 1 []\nform 2 [p(a,a)]\n",
+        Outcome::Fault(4, DocKind::Unknown),
+    ),
+    (
+        "mgtp tree 1\nroot\nform 1 []\n%x\nby 1\n",
+        Outcome::Lines(2),
+    ),
+    (
+        "mgtp tree 1\nroot\nform 01 []\n",
+        Outcome::Fault(3, DocKind::Syntax),
+    ),
+    (
+        "mgtp tree 1\nroot\nform 4294967296 []\n",
+        Outcome::Fault(3, DocKind::Syntax),
+    ),
+    (
+        "mgtp tree 1\nroot\nform 4294967295 []\n",
+        Outcome::Fault(3, DocKind::FormNumber),
+    ),
+    (
+        "mgtp tree 1\nroot\nform 5 []\n",
+        Outcome::Fault(3, DocKind::FormNumber),
+    ),
+    (
+        "mgtp tree 1\nroot\nform 0 []\n",
+        Outcome::Fault(3, DocKind::FormNumber),
+    ),
+    (
+        "mgtp tree 1\nroot\nform 5 [b]\n",
+        Outcome::Fault(3, DocKind::FormNumber),
+    ),
+    (
+        "mgtp tree 1\nroot\nform 5 [b\n",
+        Outcome::Fault(3, DocKind::Syntax),
+    ),
+    (
+        "mgtp tree 1\nform 1 []\n",
+        Outcome::Fault(2, DocKind::Syntax),
+    ),
+    (
+        "mgtp tree 1\nroot\nform 3 [a, a]\n",
+        Outcome::Fault(3, DocKind::Syntax),
+    ),
+    (
+        "mgtp tree 1\nroot\nform 3 ['a']\n",
+        Outcome::Fault(3, DocKind::Syntax),
+    ),
+    (
+        "mgtp tree 1\nroot\nform 3 [p(a]\n",
+        Outcome::Fault(3, DocKind::Syntax),
+    ),
+    (
+        "mgtp tree 1\nroot\nform 3 [a)]\n",
+        Outcome::Fault(3, DocKind::Syntax),
+    ),
+    (
+        "mgtp tree 1\nroot\nform 3 [] \n",
+        Outcome::Fault(3, DocKind::Syntax),
+    ),
+    (
+        "mgtp tree 1\nroot\nform 1 []\nform 2 [a]\nform 3 []\nroot\n",
+        Outcome::Fault(6, DocKind::Rest),
+    ),
+    (
+        "mgtp tree 1\nroot\nform 1 []\nform 2 [a]\nform 3 []\nroot",
+        Outcome::Fault(6, DocKind::Early),
+    ),
+];
+
 #[test]
 fn texts_have_their_answers(rt: HostRuntime) -> Result<(), Fail> {
     let alloc = rt.alloc();
     let problem = problem_of(alloc, PROBLEM)?;
-    for (text, want) in [
-        (WHOLE, Outcome::Lines(3)),
-        (
-            "%x\nmgtp tree 1\n%\nroot\nform 1 []\nform 2 [a]\n% form 9\nform 3 []\n%end",
-            Outcome::Lines(3),
-        ),
-        (
-            "mgtp tree 1\nroot\nform 3 ['P q'(\"x\",12)]\n",
-            Outcome::Lines(1),
-        ),
-        ("mgtp tree 1\nroot\nform 3 [p(p(a)),a]\n", Outcome::Lines(1)),
-        ("", Outcome::Fault(1, DocKind::Early)),
-        (
-            "mgtp tree 1\nroot\nform 1 []\nform 2 [a]\n",
-            Outcome::Fault(5, DocKind::Early),
-        ),
-        ("mgtp tree 3\nroot\n", Outcome::Fault(1, DocKind::Header)),
-        ("mgtp tree 1\nroots\n", Outcome::Fault(2, DocKind::Syntax)),
-        ("mgtp tree 1\nlemma 1\n", Outcome::Fault(3, DocKind::Early)),
-        (
-            "mgtp tree 1\nroot\nform 1 []\nform 2 [b]\n",
-            Outcome::Fault(4, DocKind::Unknown),
-        ),
-        (
-            "mgtp tree 1\nroot\nform 1 []\nform 2 [p(a,a)]\n",
-            Outcome::Fault(4, DocKind::Unknown),
-        ),
-        (
-            "mgtp tree 1\nroot\nform 1 []\n%x\nby 1\n",
-            Outcome::Lines(2),
-        ),
-        (
-            "mgtp tree 1\nroot\nform 01 []\n",
-            Outcome::Fault(3, DocKind::Syntax),
-        ),
-        (
-            "mgtp tree 1\nroot\nform 4294967296 []\n",
-            Outcome::Fault(3, DocKind::Syntax),
-        ),
-        (
-            "mgtp tree 1\nroot\nform 4294967295 []\n",
-            Outcome::Fault(3, DocKind::FormNumber),
-        ),
-        (
-            "mgtp tree 1\nroot\nform 5 []\n",
-            Outcome::Fault(3, DocKind::FormNumber),
-        ),
-        (
-            "mgtp tree 1\nroot\nform 0 []\n",
-            Outcome::Fault(3, DocKind::FormNumber),
-        ),
-        (
-            "mgtp tree 1\nroot\nform 5 [b]\n",
-            Outcome::Fault(3, DocKind::FormNumber),
-        ),
-        (
-            "mgtp tree 1\nroot\nform 5 [b\n",
-            Outcome::Fault(3, DocKind::Syntax),
-        ),
-        (
-            "mgtp tree 1\nform 1 []\n",
-            Outcome::Fault(2, DocKind::Syntax),
-        ),
-        (
-            "mgtp tree 1\nroot\nform 3 [a, a]\n",
-            Outcome::Fault(3, DocKind::Syntax),
-        ),
-        (
-            "mgtp tree 1\nroot\nform 3 ['a']\n",
-            Outcome::Fault(3, DocKind::Syntax),
-        ),
-        (
-            "mgtp tree 1\nroot\nform 3 [p(a]\n",
-            Outcome::Fault(3, DocKind::Syntax),
-        ),
-        (
-            "mgtp tree 1\nroot\nform 3 [a)]\n",
-            Outcome::Fault(3, DocKind::Syntax),
-        ),
-        (
-            "mgtp tree 1\nroot\nform 3 [] \n",
-            Outcome::Fault(3, DocKind::Syntax),
-        ),
-        (
-            "mgtp tree 1\nroot\nform 1 []\nform 2 [a]\nform 3 []\nroot\n",
-            Outcome::Fault(6, DocKind::Rest),
-        ),
-        (
-            "mgtp tree 1\nroot\nform 1 []\nform 2 [a]\nform 3 []\nroot",
-            Outcome::Fault(6, DocKind::Early),
-        ),
-    ] {
-        assert_eq!(rt; found(alloc, text.as_bytes(), &problem), want, "{text}");
+    for (text, want) in TEXTS.as_slice() {
+        assert_eq!(rt; found(alloc, text.as_bytes(), &problem), *want, "{text}");
     }
     Ok(())
 }

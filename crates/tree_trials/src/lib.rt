@@ -5,3 +5,7 @@
 mod block_texts;
 #[cfg(test)]
 mod doc_texts;
+#[cfg(test)]
+mod outcome;
+#[cfg(test)]
+mod small_documents;

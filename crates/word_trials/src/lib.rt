@@ -1,4 +1,4 @@
-//! Calls of `mg_word` with ample memory, on values worked by hand.
+//! Calls of `mg_word`, `key_chains` and `level_heap` with ample memory, on values worked by hand.
 #![tactic(auto)]
 
 mod fitting;
@@ -6,4 +6,8 @@ mod fitting;
 pub use fitting::is_one_term;
 
 #[cfg(test)]
-mod tests;
+mod chains;
+#[cfg(test)]
+mod levels;
+#[cfg(test)]
+mod words;

@@ -11,7 +11,7 @@ overflow_cast-node-end c = let few = few_cells _ _ _ _ _ _ c.self.invariant in o
 
 pub push_found-requires : goal.push_found-requires
 push_found-requires c =
-    let sizes = nodes_kept _ _ _ _ _ _ (subst (λ one. IsKeeping one c.self.inside.cells.items c.self.inside.closures.items c.self.inside.lemmas c.self.inside.lemma_nodes.items c.self.inside.count) c.self.view_is c.self.invariant) in
+    let sizes = nodes_kept _ _ _ _ _ _ (subst (λ one. IsKeeping one c.self.inside.cells.items c.self.inside.closures.items c.self.inside.lemmas c.self.inside.lemma_nodes.items c.self.inside.tally) c.self.view_is c.self.invariant) in
     let inside : c.loop-node.node < length (board_of c.args.self.now).nodes = omega (arith, sizes) in
     inside
 
@@ -20,13 +20,13 @@ loop-node-preserved c = found_step (board_of c.args.self.now).nodes c.loop-node.
 
 pub returns-clause-are : goal.returns-clause-are
 returns-clause-are c =
-    let sizes = nodes_kept _ _ _ _ _ _ (subst (λ one. IsKeeping one c.self.inside.cells.items c.self.inside.closures.items c.self.inside.lemmas c.self.inside.lemma_nodes.items c.self.inside.count) c.self.view_is c.self.invariant) in
+    let sizes = nodes_kept _ _ _ _ _ _ (subst (λ one. IsKeeping one c.self.inside.cells.items c.self.inside.closures.items c.self.inside.lemmas c.self.inside.lemma_nodes.items c.self.inside.tally) c.self.view_is c.self.invariant) in
     let last : length (board_of c.args.self.now).nodes ≤ c.loop-node.node = omega (arith, sizes) in
     found_all (board_of c.args.self.now).nodes c.loop-node.node _ c.loop-node.invariant last
 
 pub returns-clause-differ : goal.returns-clause-differ
 returns-clause-differ c =
-    let kept = (subst (λ one. IsKeeping one c.self.inside.cells.items c.self.inside.closures.items c.self.inside.lemmas c.self.inside.lemma_nodes.items c.self.inside.count) c.self.view_is c.self.invariant) in
+    let kept = (subst (λ one. IsKeeping one c.self.inside.cells.items c.self.inside.closures.items c.self.inside.lemmas c.self.inside.lemma_nodes.items c.self.inside.tally) c.self.view_is c.self.invariant) in
     let sizes = nodes_kept _ _ _ _ _ _ kept in
     let last : length (board_of c.args.self.now).nodes ≤ c.loop-node.node = omega (arith, sizes) in
     found_differently (setting_of c.args.self.now) (board_of c.args.self.now) (board_kept _ _ _ _ _ _ kept) _ (found_all (board_of c.args.self.now).nodes c.loop-node.node _ c.loop-node.invariant last)

@@ -1,6 +1,10 @@
-use Rattle.tree_board.specs.NextOpen.{AnswersBelow}
+use Rattle.tree_board.specs.NextOpen.{IsOnTheWay}
 use Rattle.tree_board.specs.Searches.{board_of}
+use Rattle.tree_board.proofs.TreeSteps.{later_count}
 use Rattle.tree_board.proofs.board.Board.next_open.Given as goal
 
-abbrev pub invariant-loop-node : goal.invariant-loop-node
-invariant-loop-node l = AnswersBelow (board_of l.self) l.node l.after l.best
+abbrev pub invariant-walk : goal.invariant-walk
+invariant-walk l = IsOnTheWay (board_of l.self) l.fn.after l.at
+
+abbrev pub decreases-walk : goal.decreases-walk
+decreases-walk l = later_count (board_of l.self).nodes l.at

@@ -13,7 +13,7 @@ overflow_cast-first c = let few = few_cells _ _ _ _ _ _ c.self.invariant in omeg
 
 pub open_cases-requires : goal.open_cases-requires
 open_cases-requires c =
-    let kept = (subst (λ one. IsKeeping one c.self.inside.cells.items c.self.inside.closures.items c.self.inside.lemmas c.self.inside.lemma_nodes.items c.self.inside.count) c.self.view_is c.self.invariant) in
+    let kept = (subst (λ one. IsKeeping one c.self.inside.cells.items c.self.inside.closures.items c.self.inside.lemmas c.self.inside.lemma_nodes.items c.self.inside.tally) c.self.view_is c.self.invariant) in
     let sizes = nodes_kept _ _ _ _ _ _ kept in
     let lawful = subst (IsLawful (setting_of c.args.self.now) (board_of c.args.self.now)) c.in-Extend.is c.requires.lawful in
     let fit = children_fit (setting_of c.args.self.now) (board_of c.args.self.now) kept.problem (replay_kept _ _ _ _ _ _ kept) kept.budget _ _ lawful _ _ _ (c.as_slice.ensures.value ∙ c.in_ok-cases-in-Extend.ensures) in
@@ -21,7 +21,7 @@ open_cases-requires c =
 
 pub returns-in_ok-cases-in-Extend : goal.returns-in_ok-cases-in-Extend
 returns-in_ok-cases-in-Extend c =
-    let kept = (subst (λ one. IsKeeping one c.self.inside.cells.items c.self.inside.closures.items c.self.inside.lemmas c.self.inside.lemma_nodes.items c.self.inside.count) c.self.view_is c.self.invariant) in
+    let kept = (subst (λ one. IsKeeping one c.self.inside.cells.items c.self.inside.closures.items c.self.inside.lemmas c.self.inside.lemma_nodes.items c.self.inside.tally) c.self.view_is c.self.invariant) in
     let sizes = nodes_kept _ _ _ _ _ _ kept in
     let first : c.len-first.result ≡ length (board_of c.args.self.now).nodes = omega (arith, sizes) in
     IfOk-weaker c.open_cases.result _ _ (λ numbers is. subst (λ event. AreNewOpen (board_of c.args.self.now) c.args.node event numbers.items) (sym c.in-Extend.is)
