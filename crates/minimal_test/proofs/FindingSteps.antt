@@ -1,19 +1,16 @@
 -- What the findings of rules say of the choices that keep them.
-use Rattle.std.proofs.Common.{◌≡◌, ℕ, zero, suc, ◌+◌, ◌<◌, Bool, true, false, true≢false, not, ◌||◌, nat_eq, List, [], ◌∷◌, length, take, get_or, All, refl, sym, ap, ◌∙◌, inl, inr, arith}
+use Rattle.std.proofs.Common.{◌≡◌, ℕ, zero, suc, ◌+◌, ◌<◌, Bool, true, false, true≢false, not, ◌||◌, nat_eq, List, [], ◌∷◌, length, get_or, All, refl, sym, ap, ◌∙◌, inl, inr, arith}
 use Rattle.std.specs.List.{list_any, list_all}
 use Rattle.std.proofs.lemmas.Bool.{eqb-true}
-use Rattle.std.proofs.lemmas.List.Elements.{All-head, All-tail, All-more, All-nil}
+use Rattle.std.proofs.lemmas.List.Elements.{All-head, All-tail}
 use Rattle.mg_word.proofs.Members.{both_true, and_true, not_true, not_false, never_true, never_false, or_true, either_true}
 use Rattle.minimal_test.specs.declared.rule.Rule.{Rule}
 use Rattle.minimal_test.specs.declared.side.Side.{Side}
 use Rattle.minimal_test.specs.declared.side.Side.TheVariants.{Open, In, Out}
-use Rattle.minimal_test.specs.declared.propagation.Passed.{Passed}
-use Rattle.minimal_test.specs.declared.propagation.Passed.TheVariants.{Conflict, Changed, Settled}
 use Rattle.minimal_test.specs.Choices.{is_broken, keeps, side_at, is_on, chosen_of}
 use Rattle.minimal_test.specs.Rests.{are_on, are_but}
 use Rattle.minimal_test.specs.Findings.{is_conflict, forces, IsQuiet, has_conflict, AreClosed, AreFull}
-use Rattle.minimal_test.specs.Paths.{Agrees, IsDead, IsStep, opens}
-use Rattle.minimal_test.specs.Rounds.{IsPassed}
+use Rattle.minimal_test.specs.Paths.{Agrees, IsDead, IsStep}
 
 -- the side of a place that is on it
 on_in : (side : Side) → is_on true side ≡ true → side ≡ In
@@ -113,12 +110,13 @@ pub forced_step : (sides : List Side) (rules : List Rule) (k : ℕ) (rule : Rule
 forced_step sides rules k rule place is_in within at open_place e = record {
   open_place = open_place;
   tried = λ bad. absurd (true≢false (sym bad));
+  closed = λ bad. absurd (true≢false (sym bad));
   forced = λ _ chosen kept agrees. forced_chosen sides chosen agrees rule place is_in e (ap (is_broken chosen) at ∙ kept_at chosen rules k rule kept within);
 }
 
--- a trial is a step
-pub tried_step : (rules : List Rule) (sides : List Side) (place : ℕ) → side_at sides place ≡ Open → IsStep rules sides (record { place = place; is_in = false; is_tried = true })
-tried_step rules sides place open_place = record { open_place = open_place; tried = λ _. refl; forced = λ bad. absurd (true≢false bad) }
+-- a trial is a step, where the sides are closed
+pub tried_step : (rules : List Rule) (sides : List Side) (place : ℕ) → side_at sides place ≡ Open → AreClosed sides rules → IsStep rules sides (record { place = place; is_in = false; is_tried = true })
+tried_step rules sides place open_place closed = record { open_place = open_place; tried = λ _. refl; closed = λ _. closed; forced = λ bad. absurd (true≢false bad) }
 
 -- sides that are closed and full are a choice that keeps the rules
 pub closed_keeps : (sides : List Side) (rules : List Rule) → AreClosed sides rules → AreFull sides → keeps (chosen_of sides) rules ≡ true
@@ -142,22 +140,3 @@ closed_keeps sides (rule ∷ rules) closed full =
         and_true (is_on false (side_at sides place)) (are_on sides false places)
         (decided (side_at sides place) (full place) (never_true (is_on true (side_at sides place)) (λ on. true≢false (sym (or_true (chosen_of sides place) (list_any (chosen_of sides) places) (inl on)) ∙ e))))
         (all_out places (never_true (list_any (chosen_of sides) places) (λ later. true≢false (sym (or_true (chosen_of sides place) (list_any (chosen_of sides) places) (inr later)) ∙ e))))
-
--- a pass that has come over these rules: places were forced, or all of the rules are quiet
-abbrev pub IsPassing : List Rule → List Side → List Side → Passed → Type 0
-IsPassing done old new Conflict = ⊥
-IsPassing done old new Changed = opens new < opens old
-IsPassing done old new Settled = All (IsQuiet new) done
-
-pub passing_begins : (rules : List Rule) (sides : List Side) → IsPassing (take 0 rules) sides sides Settled
-passing_begins rules sides = All-nil (IsQuiet sides)
-
-pub passing_quiet : (rules : List Rule) (old new : List Side) (passed : Passed) (k : ℕ) (rule : Rule) → k < length rules → rule ≡ get_or rules k rule → IsQuiet new rule → IsPassing (take k rules) old new passed → IsPassing (take (k + 1) rules) old new passed
-passing_quiet rules old new Conflict k rule within at quiet passing = absurd passing
-passing_quiet rules old new Changed k rule within at quiet passing = passing
-passing_quiet rules old new Settled k rule within at quiet passing = All-more (IsQuiet new) rules k rule within passing (rw (← at) quiet)
-
-pub passing_ends : (rules : List Rule) (old new : List Side) (passed : Passed) → IsPassing rules old new passed → IsPassed rules old new passed
-passing_ends rules old new Conflict passing = absurd passing
-passing_ends rules old new Changed passing = passing
-passing_ends rules old new Settled passing = passing

@@ -4,7 +4,9 @@ pub mod HeldRules
 pub mod Holdings
 pub mod Matched
 pub mod PartRules
-pub mod PassSteps
 pub mod PathSteps
 pub mod PlaceSteps
 pub mod RestSteps
+pub mod RoundSteps
+pub mod SettleSteps
+pub mod UseSteps

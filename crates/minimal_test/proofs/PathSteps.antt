@@ -10,6 +10,7 @@ use Rattle.minimal_test.specs.declared.side.Side.TheVariants.{Open, In, Out}
 use Rattle.minimal_test.specs.declared.path.Step.{Step}
 use Rattle.minimal_test.specs.declared.path.Path.{Path}
 use Rattle.minimal_test.specs.Choices.{keeps, side_at, side_of}
+use Rattle.minimal_test.specs.Findings.{AreClosed}
 use Rattle.minimal_test.specs.Paths.{Agrees, IsDead, IsStep, moved, Leads, opens, effort, debt, Extends}
 
 -- an open place is one of the places
@@ -76,7 +77,7 @@ leads_pop rules start (first ∷ steps) sides step leads =
     let (before, led, is, after) = leads_pop rules (moved start first) steps sides step leads.1 in
     (before, (leads.0, led), is, after)
 
-leads_length : (rules : List Rule) (start : List Side) (steps : List Step) (sides : List Side) → Leads rules start steps sides → length sides ≡ length start
+pub leads_length : (rules : List Rule) (start : List Side) (steps : List Step) (sides : List Side) → Leads rules start steps sides → length sides ≡ length start
 leads_length rules start [] sides leads = ap length (sym leads)
 leads_length rules start (step ∷ steps) sides leads = leads_length rules (moved start step) steps sides leads.1 ∙ length-set start step.place (side_of step.is_in)
 
@@ -113,6 +114,7 @@ turned_forced : (rules : List Rule) (before : List Side) (step : Step) → IsSte
 turned_forced rules before step is tried dead = record {
   open_place = is.open_place;
   tried = λ e. absurd (true≢false (sym e));
+  closed = λ e. absurd (true≢false (sym e));
   forced = λ _ chosen kept agrees. by chosen kept agrees (two_cases (chosen step.place));
 }
   where
@@ -145,10 +147,10 @@ back_more rules start old steps sides fewer step after back split undone untried
           omega (arith, none, whole, owed, own));
     }
 
--- the trial taken back, and its place put in
+-- the trial taken back, and its place put in; before it the sides were closed, and the place open
 pub back_turned : (rules : List Rule) (start : List Side) (old steps : List Step) (sides : List Side) (fewer : List Step) (step : Step) (after : List Side) → IsBack rules start old steps sides
     → steps ≡ fewer ++ step ∷ [] → after ≡ set sides step.place Open → step.is_tried ≡ true → (last : List Step) (end : List Side) → last ≡ fewer ++ turned step ∷ [] → end ≡ moved after (turned step)
-    → Leads rules start last end × (debt start last + effort (opens end) ≡ debt start old)
+    → Leads rules start last end × (debt start last + effort (opens end) ≡ debt start old) × AreClosed after rules × (side_at after step.place ≡ Open)
 back_turned rules start old steps sides fewer step after back split undone tried last end more put =
     let (before, led, is, made) = leads_pop rules start fewer sides step (subst (λ (one : List Step). Leads rules start one sides) split back.leads) in
     let same : after ≡ before = undone ∙ (ap (λ (one : List Side). set one step.place Open) (sym made) ∙ set_back before step.place (side_of step.is_in) is.open_place) in
@@ -167,6 +169,8 @@ back_turned rules start old steps sides fewer step after back split undone tried
           let same_effort : effort (opens end) ≡ effort (opens (moved before step)) = ap effort equal in
           let own = back.owes in
           omega (arith, some, whole, now, owed, owed', same_effort, own)),
+      subst (λ (one : List Side). AreClosed one rules) (sym same) (is.closed tried),
+      subst (λ (one : List Side). side_at one step.place ≡ Open) (sym same) is.open_place,
     )
 
 pub back_none : (rules : List Rule) (start : List Side) (old steps : List Step) (sides : List Side) → IsBack rules start old steps sides → steps ≡ [] → IsDead rules start

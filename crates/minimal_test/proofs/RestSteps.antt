@@ -12,6 +12,7 @@ use Rattle.minimal_test.specs.declared.rest.Rest.TheVariants.{Done, Only, Free}
 use Rattle.minimal_test.specs.Choices.{side_at, is_on}
 use Rattle.minimal_test.specs.Rests.{are_on, are_but, IsRest, waiting, next_rest}
 use Rattle.minimal_test.specs.Findings.{forces, IsFinding, finding_of}
+use Rattle.minimal_test.specs.Uses.{is_among}
 
 true_and : (a b : Bool) → b ≡ true → (a && (b && true)) ≡ a
 true_and true b e = ap (λ t. t && true) e
@@ -153,10 +154,24 @@ free_ends sides is_in places i rest free is = by (subst (IsRest sides is_in (tak
           (list_all-append (λ one. is_on is_in (side_at sides one) || nat_eq one other) (take i places) (drop i places) ∙ false_left (are_but sides is_in other (take i places)) (are_but sides is_in other (drop i places)) (none other open_place))),
     )
 
+-- where all but the one are on the side, and not all, it is one of them
+among_but : (sides : List Side) (is_in : Bool) (other : ℕ) (places : List ℕ) → are_on sides is_in places ≡ false → are_but sides is_in other places ≡ true → is_among other places ≡ true
+among_but sides is_in other [] some but = absurd (true≢false some)
+among_but sides is_in other (place ∷ places) some but =
+    let parts = both_true (is_on is_in (side_at sides place) || nat_eq place other) (are_but sides is_in other places) but in
+    or_true (nat_eq other place) (is_among other places) (elim (either_true (is_on is_in (side_at sides place)) (nat_eq place other) parts.0) [
+      | inl on ↦ inr (among_but sides is_in other places (never_true (are_on sides is_in places) (λ all. true≢false (sym (and_true (is_on is_in (side_at sides place)) (are_on sides is_in places) on all) ∙ some))) parts.1)
+      | inr at ↦ inl (eq-eqb other place (sym (eqb-true place other at)))
+    ])
+
 -- what a rule comes to, by what is left of its premises and conclusions
 pub found : (sides : List Side) (rule : Rule) (premises conclusions : Rest) → IsRest sides true rule.premises premises → IsRest sides false rule.conclusions conclusions → IsFinding sides rule (finding_of premises conclusions)
 found sides rule Done Done p q = and_true (are_on sides true rule.premises) (are_on sides false rule.conclusions) p q
-found sides rule Done (Only place) p (open_place, some, but) = (open_place, and_true (are_on sides true rule.premises) (are_but sides false place rule.conclusions) p but)
+found sides rule Done (Only place) p (open_place, some, but) = (
+  open_place,
+  and_true (are_on sides true rule.premises) (are_but sides false place rule.conclusions) p but,
+  or_true (is_among place rule.premises) (is_among place rule.conclusions) (inr (among_but sides false place rule.conclusions some but)),
+)
 found sides rule Done Free p (some, none) = record {
   kept = false_second (are_on sides true rule.premises) (are_on sides false rule.conclusions) some;
   still = by;
@@ -165,7 +180,11 @@ found sides rule Done Free p (some, none) = record {
     by : (place : ℕ) (is_in : Bool) → side_at sides place ≡ Open → forces sides rule place is_in ≡ false
     by place true open_place = false_second (are_on sides true rule.premises) (are_but sides false place rule.conclusions) (none place open_place)
     by place false open_place = false_second (are_but sides true place rule.premises) (are_on sides false rule.conclusions) some
-found sides rule (Only place) Done (open_place, some, but) q = (open_place, and_true (are_but sides true place rule.premises) (are_on sides false rule.conclusions) but q)
+found sides rule (Only place) Done (open_place, some, but) q = (
+  open_place,
+  and_true (are_but sides true place rule.premises) (are_on sides false rule.conclusions) but q,
+  or_true (is_among place rule.premises) (is_among place rule.conclusions) (inl (among_but sides true place rule.premises some but)),
+)
 found sides rule (Only place) (Only other) (open_place, some, but) (open_other, some', but') = record {
   kept = false_left (are_on sides true rule.premises) (are_on sides false rule.conclusions) some;
   still = by;

@@ -10,6 +10,7 @@ use Rattle.minimal_test.specs.declared.finding.Finding.{Finding}
 use Rattle.minimal_test.specs.declared.finding.Finding.TheVariants.{Broken, Forced, Quiet}
 use Rattle.minimal_test.specs.Choices.{side_at}
 use Rattle.minimal_test.specs.Rests.{are_on, are_but}
+use Rattle.minimal_test.specs.Uses.{uses_place}
 
 -- all premises are in, and all conclusions out
 abbrev pub is_conflict : List Side → Rule → Bool
@@ -37,7 +38,7 @@ finding_of Free rest = Quiet
 
 abbrev pub IsFinding : List Side → Rule → Finding → Type 0
 IsFinding sides rule Broken = IsTrue (is_conflict sides rule)
-IsFinding sides rule (Forced place is_in) = (side_at sides place ≡ Open) × IsTrue (forces sides rule place is_in)
+IsFinding sides rule (Forced place is_in) = (side_at sides place ≡ Open) × IsTrue (forces sides rule place is_in) × IsTrue (uses_place rule place)
 IsFinding sides rule Quiet = IsQuiet sides rule
 
 -- some rule is a conflict

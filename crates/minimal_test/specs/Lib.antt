@@ -6,4 +6,6 @@ pub mod Paths
 pub mod Places
 pub mod Rests
 pub mod Rounds
+pub mod Settled
+pub mod Uses
 pub mod Verdicts

@@ -6,6 +6,7 @@ use Rattle.minimal_test.specs.declared.side.Side.TheVariants.{Open, In, Out}
 use Rattle.minimal_test.specs.declared.path.Step.{Step}
 use Rattle.minimal_test.specs.declared.path.Path.{Path}
 use Rattle.minimal_test.specs.Choices.{keeps, side_at, side_of}
+use Rattle.minimal_test.specs.Findings.{AreClosed}
 
 -- the choice has each decided place on its side
 abbrev pub Agrees : List Side → (ℕ → Bool) → Type 0
@@ -15,10 +16,11 @@ Agrees sides chosen = (place : ℕ) (is_in : Bool) → side_at sides place ≡ s
 abbrev pub IsDead : List Rule → List Side → Type 0
 IsDead rules sides = (chosen : ℕ → Bool) → IsTrue (keeps chosen rules) → Agrees sides chosen → ⊥
 
--- the step takes an open place: a trial puts it out, and any other step puts it where each choice has it that agrees and keeps the rules
+-- the step takes an open place: a trial puts it out, where the sides are closed, and any other step puts it where each choice has it that agrees and keeps the rules
 pub record IsStep (rules : List Rule) (sides : List Side) (step : Step) : Type 0 where
   pub open_place : side_at sides step.place ≡ Open
   pub tried : step.is_tried ≡ true → step.is_in ≡ false
+  pub closed : step.is_tried ≡ true → AreClosed sides rules
   pub forced : step.is_tried ≡ false → (chosen : ℕ → Bool) → IsTrue (keeps chosen rules) → Agrees sides chosen → chosen step.place ≡ step.is_in
 
 -- the sides after a step

@@ -3,23 +3,15 @@ use Rattle.std.specs.Prelude.{◌≡◌, ℕ, ◌+◌, ◌<◌, Bool, true, fals
 use Rattle.minimal_test.specs.declared.rule.Rule.{Rule}
 use Rattle.minimal_test.specs.declared.side.Side.{Side}
 use Rattle.minimal_test.specs.declared.path.Path.{Path}
-use Rattle.minimal_test.specs.declared.propagation.Passed.{Passed}
-use Rattle.minimal_test.specs.declared.propagation.Passed.TheVariants.{Conflict, Changed, Settled}
 use Rattle.minimal_test.specs.declared.search.Round.{Round}
 use Rattle.minimal_test.specs.declared.search.Round.TheVariants.{Found, Exhausted, Further}
 use Rattle.minimal_test.specs.Choices.{keeps, chosen_of}
-use Rattle.minimal_test.specs.Findings.{has_conflict, AreClosed}
 use Rattle.minimal_test.specs.Paths.{IsDead, Leads, opens, effort, debt}
-
--- a pass over the rules: one was a conflict; or places were forced; or nothing was to do
-abbrev pub IsPassed : List Rule → List Side → List Side → Passed → Type 0
-IsPassed rules old new Conflict = IsTrue (has_conflict new rules)
-IsPassed rules old new Changed = opens new < opens old
-IsPassed rules old new Settled = AreClosed new rules
+use Rattle.minimal_test.specs.Settled.{IsReached}
 
 -- the last trial is taken back and its place put in; or there is no trial, and so no choice keeps the rules
 abbrev pub IsFlipped : List Rule → List Side → Path → Path → Bool → Type 0
-IsFlipped rules start old new true = Leads rules start new.trail.items new.sides.items × (debt start new.trail.items + effort (opens new.sides.items) ≡ debt start old.trail.items)
+IsFlipped rules start old new true = IsReached rules start new × (debt start new.trail.items + effort (opens new.sides.items) ≡ debt start old.trail.items)
 IsFlipped rules start old new false = IsDead rules start
 
 -- what the search from there may still cost
@@ -30,4 +22,4 @@ owed start path = debt start path.trail.items + effort (opens path.sides.items)
 abbrev pub IsRound : List Rule → Path → Path → Round → Type 0
 IsRound rules old new Found = IsTrue (keeps (chosen_of new.sides.items) rules)
 IsRound rules old new Exhausted = (start : List Side) → Leads rules start old.trail.items old.sides.items → IsDead rules start
-IsRound rules old new Further = (start : List Side) → Leads rules start old.trail.items old.sides.items → Leads rules start new.trail.items new.sides.items × (owed start new < owed start old)
+IsRound rules old new Further = (start : List Side) → Leads rules start old.trail.items old.sides.items → IsReached rules start new × (owed start new < owed start old)

@@ -18,6 +18,7 @@ mod rule;
 mod search;
 mod side;
 mod tester;
+mod uses;
 mod verdict;
 
 pub use laws::{verdicts_exclude, verdicts_tell_minimality};

@@ -4,6 +4,7 @@ ghost use Rattle.std.specs.Prelude.{◌≡◌, ◌<◌, ◌++◌, ◌∷◌, [],
 ghost use Rattle.minimal_test.specs.Choices.{side_at};
 ghost use Rattle.minimal_test.specs.Paths.{IsDead, Leads, moved};
 ghost use Rattle.minimal_test.specs.Rounds.{IsFlipped};
+ghost use Rattle.minimal_test.specs.Settled.{IsNext};
 
 use crate::side::{Side, side_of};
 use mg_word::NoMemory;
@@ -22,6 +23,8 @@ pub struct Step {
 pub struct Path {
     pub sides: Vec<Side>,
     pub trail: Vec<Step>,
+    /// How many of them are handed on to the rules that use their places.
+    pub handed: usize,
 }
 
 impl Path {
@@ -29,6 +32,7 @@ impl Path {
     pub fn new(alloc: Global, count: usize) -> Result<Path, NoMemory>
         ensures sides { IfOk result (λ path. path.sides.items ≡ replicate count Side.Open) }
         ensures trail { IfOk result (λ path. path.trail.items ≡ []) }
+        ensures handed { IfOk result (λ path. path.handed ≡ 0) }
     {
         let mut sides = Vec::with_capacity(alloc, count)?;
         for _ in 0..count {
@@ -37,6 +41,7 @@ impl Path {
         Ok(Path {
             sides,
             trail: Vec::new(alloc),
+            handed: 0,
         })
     }
 
@@ -45,10 +50,20 @@ impl Path {
         requires { side_at self.old.sides.items step.place ≡ Side.Open }
         ensures sides { OnOk result (self.new.sides.items ≡ moved self.old.sides.items step) }
         ensures trail { OnOk result (self.new.trail.items ≡ self.old.trail.items ++ step ∷ []) }
+        ensures handed { OnOk result (self.new.handed ≡ self.old.handed) }
     {
         self.trail.push(step)?;
         self.sides[step.place] = side_of(step.is_in);
         Ok(())
+    }
+
+    /// The place of the first step that is not handed on yet, which counts as handed on from now.
+    pub fn next_place(&mut self) -> Option<usize>
+        ensures { IsNext self.old self.new result }
+    {
+        let step = self.trail.get(self.handed).copied()?;
+        self.handed += 1;
+        Some(step.place)
     }
 
     // Takes the last step back.
@@ -69,6 +84,7 @@ impl Path {
     {
         while let Some(step) = self.undo() {
             if step.is_tried {
+                self.handed = self.trail.len();
                 self.put(Step {
                     place: step.place,
                     is_in: true,

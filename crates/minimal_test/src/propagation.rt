@@ -1,59 +1,81 @@
 //! Propagation: what is forced is put on its side, until nothing is forced or a rule is a conflict.
 
-ghost use Rattle.std.specs.Prelude.{IfOk, OnOk, MatchBool, IsTrue};
+ghost use Rattle.std.specs.Prelude.{◌<◌, ◌≤◌, IfOk, OnOk, MatchBool, IsTrue, length, List};
 ghost use Rattle.minimal_test.specs.Findings.{has_conflict, AreClosed};
 ghost use Rattle.minimal_test.specs.Paths.{Extends};
-ghost use Rattle.minimal_test.specs.Rounds.{IsPassed};
+ghost use Rattle.minimal_test.specs.Settled.{AreAwaited, IsHandedOn, IsLooked, IsReached};
+ghost use Rattle.minimal_test.specs.Uses.{AreUses};
+ghost use Rattle.minimal_test.specs.declared.side.Side.{Side};
 
 use crate::finding::{Finding, look};
 use crate::path::{Path, Step};
 use crate::rule::Rule;
+use crate::uses::Uses;
 use mg_word::NoMemory;
 
-/// What a pass over the rules came to.
-#[derive(Clone, Copy, Debug)]
-pub enum Passed {
-    /// A rule was a conflict.
-    Conflict,
-    /// Some place was forced.
-    Changed,
-    /// None was.
-    Settled,
+// Looks at the rule of that number, and puts the place that it forces. False where it is a conflict.
+fn look_at(rules: &[Rule], number: usize, path: &mut Path) -> Result<bool, NoMemory>
+    requires { path.old.handed ≤ length path.old.trail.items }
+    ensures extends { OnOk result (Extends rules.now path.old path.new) }
+    ensures looked { IfOk result (λ kept. MatchBool kept (IsLooked rules.now number path.old path.new) (IsTrue (has_conflict path.new.sides.items rules.now))) }
+{
+    if number >= rules.len() {
+        return Ok(true);
+    }
+    match look(&rules[number], path.sides.as_slice()) {
+        Finding::Broken => Ok(false),
+        Finding::Forced(place, is_in) => {
+            path.put(Step {
+                place,
+                is_in,
+                is_tried: false,
+            })?;
+            Ok(true)
+        }
+        Finding::Quiet => Ok(true),
+    }
 }
 
-// One pass over the rules.
-fn pass(rules: &[Rule], path: &mut Path) -> Result<Passed, NoMemory>
+/// Looks at each rule once, and puts what they force. False where one is a conflict.
+pub fn settle_all(rules: &[Rule], path: &mut Path) -> Result<bool, NoMemory>
+    requires { path.old.handed ≤ length path.old.trail.items }
     ensures extends { OnOk result (Extends rules.now path.old path.new) }
-    ensures passed { IfOk result (IsPassed rules.now path.old.sides.items path.new.sides.items) }
+    ensures handed_on { IfOk result (IsHandedOn rules.now path.old path.new) }
 {
-    let mut passed = Passed::Settled;
-    for rule in rules {
-        match look(rule, path.sides.as_slice()) {
-            Finding::Broken => return Ok(Passed::Conflict),
-            Finding::Forced(place, is_in) => {
-                path.put(Step {
-                    place,
-                    is_in,
-                    is_tried: false,
-                })?;
-                passed = Passed::Changed;
-            }
-            Finding::Quiet => {}
+    for number in 0..rules.len() {
+        if !look_at(rules, number, path)? {
+            return Ok(false);
         }
     }
-    Ok(passed)
+    Ok(true)
+}
+
+// Looks at the rules of those numbers, and puts what they force. False where one is a conflict.
+fn hand_on(rules: &[Rule], numbers: &[usize], path: &mut Path) -> Result<bool, NoMemory>
+    requires handed { path.old.handed ≤ length path.old.trail.items }
+    requires awaited { AreAwaited rules.now numbers.now path.old }
+    ensures extends { OnOk result (Extends rules.now path.old path.new) }
+    ensures handed_on { IfOk result (IsHandedOn rules.now path.old path.new) }
+{
+    for number in numbers {
+        if !look_at(rules, *number, path)? {
+            return Ok(false);
+        }
+    }
+    Ok(true)
 }
 
 /// Goes on to the closure of the sides under the rules, or to a conflict: whether it is the closure.
-pub fn propagate(rules: &[Rule], path: &mut Path) -> Result<bool, NoMemory>
+pub fn propagate(rules: &[Rule], uses: &Uses, path: &mut Path) -> Result<bool, NoMemory>
+    requires { (start : List Side) × IsReached rules.now start path.old × AreUses rules.now (length start) uses.now }
     ensures extends { OnOk result (Extends rules.now path.old path.new) }
     ensures closed { IfOk result (λ settled. MatchBool settled (AreClosed path.new.sides.items rules.now) (IsTrue (has_conflict path.new.sides.items rules.now))) }
+    ensures handed { IfOk result (λ settled. IsTrue settled → path.new.handed ≤ length path.new.trail.items) }
 {
-    loop {
-        match pass(rules, path)? {
-            Passed::Conflict => return Ok(false),
-            Passed::Changed => {}
-            Passed::Settled => return Ok(true),
+    while let Some(place) = path.next_place() {
+        if !hand_on(rules, uses.at(place), path)? {
+            return Ok(false);
         }
     }
+    Ok(true)
 }

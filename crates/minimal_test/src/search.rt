@@ -1,14 +1,17 @@
 //! The search for a choice that keeps rules: the least open place is tried out, and put in where that fails.
 
-ghost use Rattle.std.specs.Prelude.{IfOk, MatchOption, IsTrue, replicate};
+ghost use Rattle.std.specs.Prelude.{◌≤◌, IfOk, MatchOption, IsTrue, length, replicate};
 ghost use Rattle.minimal_test.specs.Choices.{keeps, chosen_of};
 ghost use Rattle.minimal_test.specs.Paths.{IsDead, Leads};
 ghost use Rattle.minimal_test.specs.Rounds.{IsRound};
+ghost use Rattle.minimal_test.specs.Settled.{IsBegun, IsReached};
+ghost use Rattle.minimal_test.specs.Uses.{AreUses};
 
 use crate::path::{Path, Step};
-use crate::propagation::propagate;
+use crate::propagation::{propagate, settle_all};
 use crate::rule::Rule;
 use crate::side::{Side, first_open};
+use crate::uses::Uses;
 use mg_word::NoMemory;
 use std::alloc::Global;
 
@@ -23,12 +26,24 @@ pub enum Round {
     Further,
 }
 
+// Looks at each rule once. False where no choice keeps them.
+fn begin(rules: &[Rule], path: &mut Path) -> Result<bool, NoMemory>
+    requires handed { path.old.handed ≤ length path.old.trail.items }
+    requires reached { (start : _) × Leads rules.now start path.old.trail.items path.old.sides.items }
+    ensures { IfOk result (λ going. (start : _) → Leads rules.now start path.old.trail.items path.old.sides.items → IsBegun rules.now start path.new going) }
+{
+    if settle_all(rules, path)? {
+        return Ok(true);
+    }
+    path.flip()
+}
+
 // One round.
-fn advance(rules: &[Rule], path: &mut Path) -> Result<Round, NoMemory>
-    requires { (start : _) × Leads rules.now start path.old.trail.items path.old.sides.items }
+fn advance(rules: &[Rule], uses: &Uses, path: &mut Path) -> Result<Round, NoMemory>
+    requires { (start : _) × IsReached rules.now start path.old × AreUses rules.now (length start) uses.now }
     ensures { IfOk result (IsRound rules.now path.old path.new) }
 {
-    if propagate(rules, path)? {
+    if propagate(rules, uses, path)? {
         let Some(place) = first_open(path.sides.as_slice()) else {
             return Ok(Round::Found);
         };
@@ -50,9 +65,13 @@ fn advance(rules: &[Rule], path: &mut Path) -> Result<Round, NoMemory>
 pub fn solve(alloc: Global, rules: &[Rule], count: usize) -> Result<Option<Vec<Side>>, NoMemory>
     ensures { IfOk result (λ found. MatchOption found (IsDead rules.now (replicate count Side.Open)) (λ sides. IsTrue (keeps (chosen_of sides.items) rules.now))) }
 {
+    let uses = Uses::new(alloc, rules, count)?;
     let mut path = Path::new(alloc, count)?;
+    if !begin(rules, &mut path)? {
+        return Ok(None);
+    }
     loop {
-        match advance(rules, &mut path)? {
+        match advance(rules, &uses, &mut path)? {
             Round::Found => return Ok(Some(path.sides)),
             Round::Exhausted => return Ok(None),
             Round::Further => {}

@@ -1,7 +1,7 @@
 use Rattle.std.proofs.Common.{IsTrue, subst}
 use Rattle.minimal_test.specs.Findings.{has_conflict, AreClosed}
 use Rattle.minimal_test.specs.Rounds.{IsFlipped}
-use Rattle.minimal_test.proofs.PassSteps.{round_found, round_tried, round_within, round_flipped, round_exhausted, match_true, match_false}
+use Rattle.minimal_test.proofs.RoundSteps.{round_found, round_tried, round_within, round_flipped, round_exhausted, match_true, match_false}
 use Rattle.minimal_test.proofs.search.advance.Goals as goal
 
 pub returns-in_default : goal.returns-in_default
@@ -11,10 +11,12 @@ returns-in_default c =
 
 pub returns-then-branch : goal.returns-then-branch
 returns-then-branch c =
-    round_tried c.args.rules.now c.args.path.now c.propagate.new.path c.put.new.self c.as_slice.result.now c.in-Some.place c.in_ok-propagate.ensures.extends c.as_slice.ensures.value c.in-Some.ensures.open_place c.in_ok-put.ensures.sides c.in_ok-put.ensures.trail
+    let closed : AreClosed c.propagate.new.path.sides.items c.args.rules.now = match_true _ _ c.in_ok-propagate.field-0 c.if-branch.true c.in_ok-propagate.ensures.closed in
+    round_tried c.args.rules.now c.args.path.now c.propagate.new.path c.put.new.self c.as_slice.result.now c.in-Some.place c.in_ok-propagate.ensures.extends closed (c.in_ok-propagate.ensures.handed c.if-branch.true) c.as_slice.ensures.value c.in-Some.ensures.open_place
+    c.in_ok-put.ensures.sides c.in_ok-put.ensures.trail c.in_ok-put.ensures.handed
 
 pub flip-requires : goal.flip-requires
-flip-requires c = round_within c.args.rules.now c.args.path.now c.propagate.new.path c.requires c.in_ok-propagate.ensures.extends
+flip-requires c = let (start, reached, used) = c.requires in round_within c.args.rules.now c.args.path.now c.propagate.new.path (start, reached.leads) c.in_ok-propagate.ensures.extends
 
 pub returns-then-branch-2 : goal.returns-then-branch-2
 returns-then-branch-2 c =
