@@ -183,7 +183,7 @@ awaited_next rules uses start old new place reached used next = λ number d with
     by number d within (inr waits) =
         let split : drop old.handed old.trail.items ≡ get_or old.trail.items old.handed none ∷ drop (suc old.handed) old.trail.items = drop-cons old.trail.items old.handed none next.3 in
         let later : drop new.handed new.trail.items ≡ drop (suc old.handed) old.trail.items =
-            ap (λ (k : ℕ). drop k new.trail.items) (let one : new.handed ≡ suc old.handed = (let more = next.2 in omega (arith, more)) in one) ∙ ap (drop (suc old.handed)) next.1 in
+        ap (λ (k : ℕ). drop k new.trail.items) (let one : new.handed ≡ suc old.handed = (let more = next.2 in omega (arith, more)) in one) ∙ ap (drop (suc old.handed)) next.1 in
         elim (either_true (uses_place (get_or rules number d) (get_or old.trail.items old.handed none).place) (uses_one (get_or rules number d) (drop (suc old.handed) old.trail.items)) (sym (ap (uses_one (get_or rules number d)) split) ∙ waits)) [
           | inl here ↦ inr (used number d place within inside (sym (ap (uses_place (get_or rules number d)) (next.4 none)) ∙ here))
           | inr rest ↦ inl (inr (ap (uses_one (get_or rules number d)) later ∙ rest))

@@ -62,7 +62,7 @@ grown_push old new place one list d within pushed changed = record {
     by number other e (inl is) =
         let same = eqb-true other place is in
         let now : numbers_at (set old place list) other ≡ numbers_at old other ++ one ∷ [] =
-            ap (numbers_at (set old place list)) same ∙ (listed_same old place list within ∙ (pushed ∙ ap (λ (all : List ℕ). all ++ one ∷ []) (sym (ap (numbers_at old) same ∙ listed_at old place d within)))) in
+        ap (numbers_at (set old place list)) same ∙ (listed_same old place list within ∙ (pushed ∙ ap (λ (all : List ℕ). all ++ one ∷ []) (sym (ap (numbers_at old) same ∙ listed_at old place d within)))) in
         ap (is_among number) now ∙ among_more number one (numbers_at old other) e
     by number other e (inr is) = ap (is_among number) (listed_other old place other list (λ same. true≢false (sym (eq-eqb other place same) ∙ is))) ∙ e
 
