@@ -59,6 +59,15 @@ fn push(branch: &mut Branch, lit: &Lit) -> Result<(), Fail>
     Ok(())
 }
 
+// Pushes both atoms.
+fn push_both(branch: &mut Branch, first: &Lit, second: &Lit) -> Result<(), Fail>
+    requires first { IsTrue (fits branch.old.problem.symbols first.now.word) }
+    requires second { IsTrue (fits branch.old.problem.symbols second.now.word) }
+{
+    push(branch, first)?;
+    push(branch, second)
+}
+
 // The branch of p(a) and p(f(a)), pushed.
 fn pushed(alloc: Global) -> Result<Branch, Fail> {
     let problem = Arc::new(alloc, problem_of(alloc, PROBLEM)?)?;
@@ -66,8 +75,7 @@ fn pushed(alloc: Global) -> Result<Branch, Fail> {
         return Err(Fail::from("other symbols"));
     }
     let mut branch = Branch::new(alloc, problem)?;
-    push(&mut branch, &first(alloc)?)?;
-    push(&mut branch, &second(alloc)?)?;
+    push_both(&mut branch, &first(alloc)?, &second(alloc)?)?;
     Ok(branch)
 }
 
