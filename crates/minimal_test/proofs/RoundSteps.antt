@@ -1,5 +1,5 @@
 -- Rounds of the search, put together from their steps.
-use Rattle.std.proofs.Common.{◌≡◌, ℕ, zero, suc, ◌+◌, ◌*◌, ◌<◌, ◌≤◌, Bool, true, false, true≢false, MatchBool, IfOk, Result, Ok, Err, List, [], ◌∷◌, ◌++◌, length, take, get_or, All, refl, sym, ap, subst, arith}
+use Rattle.std.proofs.Common.{◌≡◌, ℕ, zero, suc, ◌*◌, ◌<◌, ◌≤◌, Bool, true, false, true≢false, MatchBool, IfOk, Result, Ok, Err, List, [], ◌∷◌, ◌++◌, length, All, sym, ap, subst, arith}
 use Rattle.minimal_test.specs.declared.rule.Rule.{Rule}
 use Rattle.minimal_test.specs.declared.side.Side.{Side}
 use Rattle.minimal_test.specs.declared.side.Side.TheVariants.{Open}
@@ -10,7 +10,7 @@ use Rattle.minimal_test.specs.Choices.{side_at}
 use Rattle.minimal_test.specs.Findings.{has_conflict, AreClosed, AreFull}
 use Rattle.minimal_test.specs.Paths.{IsDead, moved, Leads, opens, effort, debt, Extends}
 use Rattle.minimal_test.specs.Rounds.{IsFlipped, IsRound}
-use Rattle.minimal_test.specs.Settled.{IsReached, IsHandedOn, IsBegun}
+use Rattle.minimal_test.specs.Settled.{IsHandedOn, IsBegun}
 use Rattle.minimal_test.proofs.PathSteps.{leads_push, leads_within, debt_push, opens_set, effort_some}
 use Rattle.minimal_test.proofs.FindingSteps.{tried_step, conflict_dead, closed_keeps}
 use Rattle.minimal_test.proofs.SettleSteps.{settled_after, handed_put}

@@ -1,11 +1,10 @@
 -- How rules are settled: steps put, steps handed on, and rules looked at.
-use Rattle.std.proofs.Common.{◌≡◌, ◌≢◌, ℕ, zero, suc, ◌+◌, ◌-◌, ◌<◌, ◌≤◌, Bool, true, false, true≢false, ◌&&◌, ◌||◌, nat_eq, List, [], ◌∷◌, ◌++◌, length, take, drop, set, get_or, All, IsTrue, MatchBool, Option, None, Some, refl, sym, ap, subst, ◌∙◌, ◌⊎◌, inl, inr, arith, length-append}
-use Rattle.std.specs.List.{list_any}
+use Rattle.std.proofs.Common.{◌≡◌, ◌≢◌, ℕ, zero, suc, ◌+◌, ◌-◌, ◌<◌, ◌≤◌, Bool, true, false, true≢false, ◌&&◌, ◌||◌, nat_eq, List, [], ◌∷◌, ◌++◌, length, drop, set, get_or, All, Some, refl, sym, ap, subst, ◌∙◌, ◌⊎◌, inl, inr, arith, length-append}
 use Rattle.std.proofs.Math.Seq.{drop-cons}
 use Rattle.std.proofs.lemmas.Bool.{eqb-true, eq-eqb}
 use Rattle.std.proofs.lemmas.List.{drop-append-le, get_or_default}
 use Rattle.std.proofs.lemmas.List.Folds.{list_any-append}
-use Rattle.mg_word.proofs.Members.{two_cases, or_true, either_true, both_false, both_true}
+use Rattle.mg_word.proofs.Members.{two_cases, or_true, either_true, both_false}
 use Rattle.minimal_test.specs.declared.rule.Rule.{Rule}
 use Rattle.minimal_test.specs.declared.side.Side.{Side}
 use Rattle.minimal_test.specs.declared.side.Side.TheVariants.{Open}
@@ -15,11 +14,11 @@ use Rattle.minimal_test.specs.declared.uses.Uses.{Uses}
 use Rattle.minimal_test.specs.Choices.{side_at, is_on}
 use Rattle.minimal_test.specs.Rests.{are_on, are_but}
 use Rattle.minimal_test.specs.declared.finding.Finding.TheVariants.{Forced}
-use Rattle.minimal_test.specs.Findings.{is_conflict, forces, IsQuiet, IsFinding, has_conflict, AreClosed}
+use Rattle.minimal_test.specs.Findings.{forces, IsQuiet, IsFinding, AreClosed}
 use Rattle.minimal_test.specs.Paths.{moved, Leads, opens, debt, Extends}
 use Rattle.minimal_test.specs.Uses.{is_among, uses_place, numbers_at, AreUses}
 use Rattle.minimal_test.specs.Settled.{uses_one, IsSettled, AreAwaited, IsLooked, IsReached, IsHandedOn, IsNext}
-use Rattle.minimal_test.proofs.PathSteps.{side_set_other, opens_set, leads_within, leads_length, extends_step, extends_more}
+use Rattle.minimal_test.proofs.PathSteps.{side_set_other, opens_set, leads_within, leads_length, extends_step}
 use Rattle.minimal_test.proofs.FindingSteps.{forced_step}
 
 -- a place that is not among them, changed

@@ -1,6 +1,5 @@
 -- Rules listed at their places, one by one.
-use Rattle.std.proofs.Common.{◌≡◌, ◌≢◌, ℕ, zero, suc, ◌+◌, ◌<◌, ◌≤◌, Bool, true, false, true≢false, ◌||◌, nat_eq, List, [], ◌∷◌, ◌++◌, length, set, get_or, take, IsTrue, refl, sym, ap, subst, ◌∙◌, ◌⊎◌, inl, inr, arith, length-set}
-use Rattle.std.specs.List.{list_any}
+use Rattle.std.proofs.Common.{◌≡◌, ◌≢◌, ℕ, zero, suc, ◌+◌, ◌<◌, true, false, true≢false, nat_eq, List, [], ◌∷◌, ◌++◌, length, set, get_or, take, IsTrue, refl, sym, ap, subst, ◌∙◌, ◌⊎◌, inl, inr, arith, length-set}
 use Rattle.std.specs.Global.{Global}
 use Rattle.std.specs.declared.vec.Vec.{Vec}
 use Rattle.std.proofs.lemmas.Bool.{eqb-true, eq-eqb}
@@ -9,7 +8,7 @@ use Rattle.std.proofs.lemmas.List.Folds.{list_any-append}
 use Rattle.mg_word.proofs.Members.{two_cases, or_true, either_true}
 use Rattle.minimal_test.specs.declared.rule.Rule.{Rule}
 use Rattle.minimal_test.specs.declared.uses.Uses.{Uses}
-use Rattle.minimal_test.specs.Uses.{is_among, uses_place, numbers_at, AreUses, IsListed, IsGrown}
+use Rattle.minimal_test.specs.Uses.{is_among, uses_place, numbers_at, IsListed, IsGrown}
 
 -- the lists with one changed
 listed_same : (lists : List (Vec ℕ Global)) (place : ℕ) (one : Vec ℕ Global) → place < length lists → numbers_at (set lists place one) place ≡ one.items

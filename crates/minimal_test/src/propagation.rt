@@ -1,6 +1,6 @@
 //! Propagation: what is forced is put on its side, until nothing is forced or a rule is a conflict.
 
-ghost use Rattle.std.specs.Prelude.{◌<◌, ◌≤◌, IfOk, OnOk, MatchBool, IsTrue, length, List};
+ghost use Rattle.std.specs.Prelude.{◌≤◌, IfOk, OnOk, MatchBool, IsTrue, length, List};
 ghost use Rattle.minimal_test.specs.Findings.{has_conflict, AreClosed};
 ghost use Rattle.minimal_test.specs.Paths.{Extends};
 ghost use Rattle.minimal_test.specs.Settled.{AreAwaited, IsHandedOn, IsLooked, IsReached};

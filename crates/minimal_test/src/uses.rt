@@ -1,6 +1,6 @@
 //! Which rules use a place.
 
-ghost use Rattle.std.specs.Prelude.{◌≡◌, ◌<◌, IfOk, OnOk, IsTrue, length, replicate};
+ghost use Rattle.std.specs.Prelude.{◌≡◌, ◌<◌, IfOk, OnOk, IsTrue, length};
 ghost use Rattle.minimal_test.specs.Uses.{numbers_at, is_among, AreUses, IsListed, IsGrown};
 
 use crate::rule::Rule;

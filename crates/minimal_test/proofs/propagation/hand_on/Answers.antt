@@ -2,7 +2,7 @@ use Rattle.std.proofs.Common.{arith, get_or, refl, ◌∙◌}
 use Rattle.minimal_test.specs.Settled.{IsLooked}
 use Rattle.minimal_test.proofs.PathSteps.{extends_more}
 use Rattle.minimal_test.proofs.RoundSteps.{match_true}
-use Rattle.minimal_test.proofs.SettleSteps.{awaited_at, awaited_ends}
+use Rattle.minimal_test.proofs.SettleSteps.{awaited_at}
 use Rattle.minimal_test.proofs.propagation.hand_on.Goals as goal
 
 pub loop-number-preserved : goal.loop-number-preserved

@@ -1,7 +1,7 @@
-use Rattle.std.proofs.Common.{ℕ, List, true, Some, subst}
-use Rattle.minimal_test.specs.Settled.{AreAwaited, IsHandedOn, IsNext}
+use Rattle.std.proofs.Common.{true, subst}
+use Rattle.minimal_test.specs.Settled.{IsHandedOn}
 use Rattle.minimal_test.proofs.PathSteps.{extends_more}
-use Rattle.minimal_test.proofs.SettleSteps.{awaited_next, extends_next, reached_next, reached_fewer, settled_closed}
+use Rattle.minimal_test.proofs.SettleSteps.{awaited_next, extends_next, reached_next, reached_fewer}
 use Rattle.minimal_test.proofs.propagation.propagate.Goals as goal
 
 pub hand_on-requires-clause-awaited : goal.hand_on-requires-clause-awaited

@@ -1,4 +1,4 @@
-use Rattle.std.proofs.Common.{true, false, replicate, subst}
+use Rattle.std.proofs.Common.{replicate, subst}
 use Rattle.minimal_test.specs.declared.side.Side.TheVariants.{Open}
 use Rattle.minimal_test.specs.Settled.{IsBegun}
 use Rattle.minimal_test.proofs.RoundSteps.{start_leads}

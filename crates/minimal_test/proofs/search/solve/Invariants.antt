@@ -1,4 +1,4 @@
-use Rattle.std.proofs.Common.{replicate, length}
+use Rattle.std.proofs.Common.{replicate}
 use Rattle.minimal_test.specs.declared.side.Side.TheVariants.{Open}
 use Rattle.minimal_test.specs.Settled.{IsReached}
 use Rattle.minimal_test.specs.Uses.{AreUses}

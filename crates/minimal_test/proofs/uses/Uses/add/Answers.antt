@@ -1,4 +1,4 @@
-use Rattle.std.proofs.Common.{◌+◌, arith}
+use Rattle.std.proofs.Common.{arith}
 use Rattle.minimal_test.proofs.UseSteps.{grown_more, listed_more}
 use Rattle.minimal_test.proofs.uses.Uses.add.Goals as goal
 
