@@ -25,6 +25,10 @@ def chain(size, closed):
     return problem(clauses + (["~p%d" % (size - 1)] if closed else []))
 
 
+def chain_down(size):
+    return problem(["p%d" % (size - 1)] + ["~p%d|p%d" % (i, i - 1) for i in range(1, size)])
+
+
 def closure(size):
     edges = ["e(n%d,n%d)" % (i, i + 1) for i in range(size)]
     return problem(edges + ["~e(X,Y)|p(X,Y)", "~p(X,Y)|~e(Y,Z)|p(X,Z)"])
@@ -86,7 +90,7 @@ def sample_sets(size):
     return sets
 
 
-# What is run, the line that the answer has to have, and seconds of a plain Rust program at the whole size.
+# What is run, the line that the answer has to have, and seconds of a plain Rust program at the whole size, if there are any.
 def rows(part):
     def of(size):
         return max(size // part, 4)
@@ -99,6 +103,7 @@ def rows(part):
     many = ["--budget", "1000000"]
     yield "sample %d" % less(20), None, ["sample", str(less(20))], "%% Models complete: %d" % sample_sets(less(20)), 0.12
     yield "chain of %d, open" % of(15000), open_chain, ["models"], "% Models complete: 1", 0.15
+    yield "chain of %d, downwards" % of(15000), chain_down(of(15000)), ["models"], "% Models complete: 1", None
     yield "chain of %d, closed" % of(15000), closed_chain, ["prove"], "% SZS status Unsatisfiable for x", 0.14
     yield "terms to weight %d" % of(4000), terms, ["models", "--weight", str(of(4000))], "%% Reason: weight %d" % of(4000), 0.008
     for size, seconds in (200, 0.06), (400, 0.22), (1000, 1.1):
@@ -145,7 +150,7 @@ def main():
                     file.write(text)
                 command = command[:1] + [name] + command[1:]
             measured = run([program] + command, output, asked.seconds)
-            mark = "%.3f" % seconds if asked.part == 1 else ""
+            mark = "%.3f" % seconds if asked.part == 1 and seconds else ""
             if measured is None:
                 print("| %s | over %d | | %s |" % (what, asked.seconds, mark), flush=True)
                 continue
