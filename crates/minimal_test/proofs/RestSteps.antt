@@ -1,7 +1,8 @@
 -- What is left of a list of places, place by place, and what it makes of a rule.
-use Rattle.std.proofs.Common.{◌≡◌, ◌≢◌, ℕ, ◌+◌, ◌<◌, Bool, true, false, true≢false, ◌&&◌, ◌||◌, nat_eq, List, [], ◌∷◌, ◌++◌, length, take, drop, get_or, refl, sym, ap, subst, ◌∙◌, ◌⊎◌, inl, inr}
+use Rattle.std.proofs.Common.{◌≡◌, ◌≢◌, ℕ, ◌+◌, ◌-◌, ◌<◌, Bool, true, false, true≢false, ◌&&◌, ◌||◌, nat_eq, List, [], ◌∷◌, ◌++◌, length, take, drop, get_or, refl, sym, ap, subst, ◌∙◌, ◌⊎◌, inl, inr, arith}
 use Rattle.std.proofs.lemmas.Bool.{eqb-true, eq-eqb}
-use Rattle.std.proofs.lemmas.List.{take_more, take-append-drop}
+use Rattle.std.proofs.lemmas.List.{take_all, take_more, take-append-drop, length-drop, append_assoc}
+use Rattle.std.proofs.Math.Bool.{and_comm}
 use Rattle.std.proofs.lemmas.List.Folds.{list_all-append}
 use Rattle.mg_word.proofs.Members.{both_true, and_true, never_true, or_true, either_true}
 use Rattle.minimal_test.specs.declared.rule.Rule.{Rule}
@@ -137,22 +138,59 @@ rest_next sides true places place Out e rest is = leave sides true places place 
 rest_next sides false places place In e rest is = leave sides false places place (ap (is_on false) e) (λ f. let bad : ⊥ = cc in bad)
 rest_next sides false places place Out e rest is = stay sides false places place (ap (is_on false) e) rest is
 
-pub rest_more : (sides : List Side) (is_in : Bool) (places : List ℕ) (i : ℕ) (rest next : Rest) (side : Side) → i < length places → side ≡ side_at sides (get_or places i 0) → next ≡ next_rest is_in (get_or places i 0) side rest
-    → IsRest sides is_in (take i places) rest → IsRest sides is_in (take (i + 1) places) next
-rest_more sides is_in places i rest next side within at made is =
-    rw (take_more places i 0 within, made) (rest_next sides is_in (take i places) (get_or places i 0) side (sym at) rest is)
+pub rest_more : (sides : List Side) (is_in : Bool) (before places : List ℕ) (i : ℕ) (rest next : Rest) (side : Side) → i < length places → side ≡ side_at sides (get_or places i 0) → next ≡ next_rest is_in (get_or places i 0) side rest
+    → IsRest sides is_in (before ++ take i places) rest → IsRest sides is_in (before ++ take (i + 1) places) next
+rest_more sides is_in before places i rest next side within at made is =
+    rw (take_more places i 0 within, sym (append_assoc before (take i places) (get_or places i 0 ∷ [])), made) (rest_next sides is_in (before ++ take i places) (get_or places i 0) side (sym at) rest is)
+
+-- what is neither of some places is neither of those and more
+free_more : (sides : List Side) (is_in : Bool) (places more : List ℕ) → IsRest sides is_in places Free → IsRest sides is_in (places ++ more) Free
+free_more sides is_in places more (some, none) = (
+  list_all-append (λ one. is_on is_in (side_at sides one)) places more ∙ false_left (are_on sides is_in places) (are_on sides is_in more) some,
+  (λ other open_place. list_all-append (λ one. is_on is_in (side_at sides one) || nat_eq one other) places more ∙ false_left (are_but sides is_in other places) (are_but sides is_in other more) (none other open_place)),
+)
 
 -- what is neither of the first places is neither of all
-pub free_ends : (sides : List Side) (is_in : Bool) (places : List ℕ) (i : ℕ) (rest : Rest) → rest ≡ Free → IsRest sides is_in (take i places) rest → IsRest sides is_in places Free
-free_ends sides is_in places i rest free is = by (subst (IsRest sides is_in (take i places)) free is)
+pub free_ends : (sides : List Side) (is_in : Bool) (before places : List ℕ) (i : ℕ) (rest : Rest) → rest ≡ Free → IsRest sides is_in (before ++ take i places) rest → IsRest sides is_in (before ++ places) Free
+free_ends sides is_in before places i rest free is =
+    subst (λ (some : List ℕ). IsRest sides is_in some Free) (append_assoc before (take i places) (drop i places) ∙ ap (λ (some : List ℕ). before ++ some) (take-append-drop i places))
+    (free_more sides is_in (before ++ take i places) (drop i places) (subst (IsRest sides is_in (before ++ take i places)) free is))
+
+-- the tests of a list do not ask where it begins
+on_round : (sides : List Side) (is_in : Bool) (places : List ℕ) (m : ℕ) → are_on sides is_in (drop m places ++ take m places) ≡ are_on sides is_in places
+on_round sides is_in places m =
+    list_all-append test (drop m places) (take m places) ∙ (and_comm (are_on sides is_in (drop m places)) (are_on sides is_in (take m places))
+    ∙ (sym (list_all-append test (take m places) (drop m places)) ∙ ap (are_on sides is_in) (take-append-drop m places)))
   where
-    by : IsRest sides is_in (take i places) Free → IsRest sides is_in places Free
-    by (some, none) = (
-      subst (λ (one : List ℕ). are_on sides is_in one ≡ false) (take-append-drop i places)
-          (list_all-append (λ one. is_on is_in (side_at sides one)) (take i places) (drop i places) ∙ false_left (are_on sides is_in (take i places)) (are_on sides is_in (drop i places)) some),
-      (λ other open_place. subst (λ (one : List ℕ). are_but sides is_in other one ≡ false) (take-append-drop i places)
-          (list_all-append (λ one. is_on is_in (side_at sides one) || nat_eq one other) (take i places) (drop i places) ∙ false_left (are_but sides is_in other (take i places)) (are_but sides is_in other (drop i places)) (none other open_place))),
-    )
+    test : ℕ → Bool
+    test one = is_on is_in (side_at sides one)
+
+but_round : (sides : List Side) (is_in : Bool) (other : ℕ) (places : List ℕ) (m : ℕ) → are_but sides is_in other (drop m places ++ take m places) ≡ are_but sides is_in other places
+but_round sides is_in other places m =
+    list_all-append test (drop m places) (take m places) ∙ (and_comm (are_but sides is_in other (drop m places)) (are_but sides is_in other (take m places))
+    ∙ (sym (list_all-append test (take m places) (drop m places)) ∙ ap (are_but sides is_in other) (take-append-drop m places)))
+  where
+    test : ℕ → Bool
+    test one = is_on is_in (side_at sides one) || nat_eq one other
+
+-- the places from one on
+behind : (places : List ℕ) (m : ℕ) → take (length places - m) (drop m places) ≡ drop m places
+behind places m = take_all (length places - m) (drop m places) (omega (arith, length-drop m places))
+
+-- what is left of the places from one on, and then of those before it, is left of all
+pub rest_round : (sides : List Side) (is_in : Bool) (places : List ℕ) (m : ℕ) (rest : Rest) → IsRest sides is_in (take (length places - m) (drop m places) ++ take m places) rest → IsRest sides is_in places rest
+rest_round sides is_in places m rest is = by rest (subst (λ (some : List ℕ). IsRest sides is_in (some ++ take m places) rest) (behind places m) is)
+  where
+    by : (rest : Rest) → IsRest sides is_in (drop m places ++ take m places) rest → IsRest sides is_in places rest
+    by Done is = sym (on_round sides is_in places m) ∙ is
+    by (Only other) (open_place, some, but) = (open_place, sym (on_round sides is_in places m) ∙ some, sym (but_round sides is_in other places m) ∙ but)
+    by Free (some, none) = (sym (on_round sides is_in places m) ∙ some, (λ other open_place. sym (but_round sides is_in other places m) ∙ none other open_place))
+
+-- what is neither of the places from one on is neither of all
+pub free_round : (sides : List Side) (is_in : Bool) (places : List ℕ) (m : ℕ) (rest : Rest) → rest ≡ Free → IsRest sides is_in (take (length places - m) (drop m places)) rest → IsRest sides is_in places Free
+free_round sides is_in places m rest free is =
+    let slice : List ℕ = take (length places - m) (drop m places) in
+    rest_round sides is_in places m Free (free_more sides is_in slice (take m places) (subst (IsRest sides is_in slice) free is))
 
 -- where all but the one are on the side, and not all, it is one of them
 among_but : (sides : List Side) (is_in : Bool) (other : ℕ) (places : List ℕ) → are_on sides is_in places ≡ false → are_but sides is_in other places ≡ true → is_among other places ≡ true

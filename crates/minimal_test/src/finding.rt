@@ -6,6 +6,7 @@ ghost use Rattle.minimal_test.specs.Findings.{IsFinding, finding_of};
 use crate::rest::{Rest, rest_of};
 use crate::rule::Rule;
 use crate::side::Side;
+use crate::starts::Start;
 
 /// What a rule comes to under the sides so far.
 #[derive(Clone, Copy, Debug)]
@@ -33,11 +34,19 @@ fn finding_of(premises: Rest, conclusions: Rest) -> Finding
     }
 }
 
-/// What the rule comes to.
-pub fn look(rule: &Rule, sides: &[Side]) -> Finding
+/// What the rule comes to, by a look that begins there; it leaves where the next one may begin.
+pub fn look(rule: &Rule, sides: &[Side], start: &mut Start) -> Finding
     ensures { IsFinding sides.now rule.now result }
 {
-    let premises = rest_of(sides, true, rule.premises.as_slice());
-    let conclusions = rest_of(sides, false, rule.conclusions.as_slice());
+    let premises = rest_of(sides, true, rule.premises.as_slice(), &mut start.premises);
+    if let Rest::Free = premises {
+        return Finding::Quiet;
+    }
+    let conclusions = rest_of(
+        sides,
+        false,
+        rule.conclusions.as_slice(),
+        &mut start.conclusions,
+    );
     finding_of(premises, conclusions)
 }

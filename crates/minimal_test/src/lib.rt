@@ -17,6 +17,7 @@ mod rest;
 mod rule;
 mod search;
 mod side;
+mod starts;
 mod tester;
 mod uses;
 mod verdict;

@@ -11,6 +11,7 @@ use crate::path::{Path, Step};
 use crate::propagation::{propagate, settle_all};
 use crate::rule::Rule;
 use crate::side::{Side, first_open};
+use crate::starts::Starts;
 use crate::uses::Uses;
 use mg_word::NoMemory;
 use std::alloc::Global;
@@ -27,23 +28,28 @@ pub enum Round {
 }
 
 // Looks at each rule once. False where no choice keeps them.
-fn begin(rules: &[Rule], path: &mut Path) -> Result<bool, NoMemory>
+fn begin(rules: &[Rule], starts: &mut Starts, path: &mut Path) -> Result<bool, NoMemory>
     requires handed { path.old.handed ≤ length path.old.trail.items }
     requires reached { (start : _) × Leads rules.now start path.old.trail.items path.old.sides.items }
     ensures { IfOk result (λ going. (start : _) → Leads rules.now start path.old.trail.items path.old.sides.items → IsBegun rules.now start path.new going) }
 {
-    if settle_all(rules, path)? {
+    if settle_all(rules, starts, path)? {
         return Ok(true);
     }
     path.flip()
 }
 
 // One round.
-fn advance(rules: &[Rule], uses: &Uses, path: &mut Path) -> Result<Round, NoMemory>
+fn advance(
+    rules: &[Rule],
+    uses: &Uses,
+    starts: &mut Starts,
+    path: &mut Path,
+) -> Result<Round, NoMemory>
     requires { (start : _) × IsReached rules.now start path.old × AreUses rules.now (length start) uses.now }
     ensures { IfOk result (IsRound rules.now path.old path.new) }
 {
-    if propagate(rules, uses, path)? {
+    if propagate(rules, uses, starts, path)? {
         let Some(place) = first_open(path.sides.as_slice()) else {
             return Ok(Round::Found);
         };
@@ -66,12 +72,13 @@ pub fn solve(alloc: Global, rules: &[Rule], count: usize) -> Result<Option<Vec<S
     ensures { IfOk result (λ found. MatchOption found (IsDead rules.now (replicate count Side.Open)) (λ sides. IsTrue (keeps (chosen_of sides.items) rules.now))) }
 {
     let uses = Uses::new(alloc, rules, count)?;
+    let mut starts = Starts::new(alloc, rules.len())?;
     let mut path = Path::new(alloc, count)?;
-    if !begin(rules, &mut path)? {
+    if !begin(rules, &mut starts, &mut path)? {
         return Ok(None);
     }
     loop {
-        match advance(rules, &uses, &mut path)? {
+        match advance(rules, &uses, &mut starts, &mut path)? {
             Round::Found => return Ok(Some(path.sides)),
             Round::Exhausted => return Ok(None),
             Round::Further => {}
