@@ -20,11 +20,13 @@ use std::alloc::Global;
 use szs_report::{CheckAnswer, report_check, szs_name};
 use tree_checker::{DocFault, Reject, check_doc};
 
-// Whether the text is that of a document that is accepted.
-fn judge(alloc: Global, problem: &Problem, text: &[u8]) -> Result<CheckAnswer, NoMemory>
-    ensures { IfOk result (IsJudged problem.now text.now) }
+// Whether the text is that of a document that is accepted. The text makes room before its document is checked.
+fn judge(alloc: Global, problem: &Problem, text: Vec<u8>) -> Result<CheckAnswer, NoMemory>
+    ensures { IfOk result (IsJudged problem.now text.items) }
 {
-    let doc = match read_doc(alloc, text, problem) {
+    let read = read_doc(alloc, &text, problem);
+    drop(text);
+    let doc = match read {
         Ok(doc) => doc,
         Err(DocFault::Line { line, kind }) => return Ok(CheckAnswer::Unread { line, kind }),
         Err(DocFault::NoMemory) => return Err(NoMemory),
@@ -56,7 +58,7 @@ fn answer<'a, F: Files>(
     };
     let mut text = Vec::new(alloc);
     match files.read(tree, u64::MAX, &mut text) {
-        ReadAnswer::Done => match judge(alloc, &problem, &text) {
+        ReadAnswer::Done => match judge(alloc, &problem, text) {
             Ok(answer) => Ok(answer),
             Err(_) => Err(Refusal::MemoryOut),
         },
